@@ -3,6 +3,7 @@ use Rattle.std.proofs.Common.{ℕ, ◌<◌, Bool, true, false, List, [], ◌∷�
 use Rattle.std.specs.Prelude.{if◌then◌else◌}
 use Rattle.std.specs.Str.{bytes_eq}
 use Rattle.lw_grammar.specs.declared.grammar.Grammar.{Grammar}
+use Rattle.lw_link_rules.specs.Setting.{Setting}
 use Rattle.lw_check.specs.Sorting.{AreShown}
 use Rattle.lw_reading.specs.Known.{HasKnownTypes, HasOneRoot}
 use Rattle.lw_reading.proofs.Enclosed.{tree_encloses}
@@ -24,25 +25,25 @@ use Rattle.lw_tree.specs.declared.issue.Issue.{Issue}
 use Rattle.lw_tree.specs.Parts.{Parts}
 
 -- the trees of a text that is read whole
-module _ (g : Grammar) (address text : List ℕ) (tree : Parts) (reads : Reads g text (Whole tree)) where
-  pub trees_alone : AreTreesOfTexts g (alone_at address text) (alone_at address tree)
+module _ (setting : Setting) (address text : List ℕ) (tree : Parts) (reads : Reads setting.grammar text (Whole tree)) where
+  pub trees_alone : AreTreesOfTexts setting.grammar (alone_at address text) (alone_at address tree)
   trees_alone other = by (bytes_eq other address)
     where
-      by : (b : Bool) → IsTreeOfText g (if b then Some text else None) (if b then Some tree else None)
+      by : (b : Bool) → IsTreeOfText setting.grammar (if b then Some text else None) (if b then Some tree else None)
       by true = scope.whole reads
       by false = scope.no_text
 
   -- what is told of its tree is its list
-  pub told_alone : (list : List Shown) → AreShown g (alone_at address tree) address tree text list → IsListAlone g address text list
+  pub told_alone : (list : List Shown) → AreShown setting (alone_at address tree) address tree text list → IsListAlone setting address text list
   told_alone list (diagnostics, are, shown) = record {
     text = text;
     is_shown = alone_here address text;
     is_list = diagnostic.whole (alone_at address tree) trees_alone (alone_here address tree) are shown;
   }
 
-pub broken_alone : (g : Grammar) (address text : List ℕ) (issue : Issue) (shown : Shown) → Reads g text (Broken issue) → IsFaultShown g text issue shown →
-    IsListAlone g address text (shown ∷ [])
-broken_alone g address text issue shown reads is = record { text = text; is_shown = alone_here address text; is_list = diagnostic.broken reads is }
+pub broken_alone : (setting : Setting) (address text : List ℕ) (issue : Issue) (shown : Shown) → Reads setting.grammar text (Broken issue) → IsFaultShown setting.grammar text issue shown →
+    IsListAlone setting address text (shown ∷ [])
+broken_alone setting address text issue shown reads is = record { text = text; is_shown = alone_here address text; is_list = diagnostic.broken reads is }
 
 -- ---- the tree of a text
 
@@ -61,7 +62,7 @@ module _ (g : Grammar) (text : List ℕ) where
 
 -- ---- its list
 
-pub listed : (g : Grammar) (address text : List ℕ) (tree : Parts) → Reads g text (Whole tree) → {E : Type 0} (r : Result (List Shown) E) →
-    IfOk r (AreShown g (alone_at address tree) address tree text) → IfOk r (IsListAlone g address text)
-listed g address text tree reads (Ok list) are = told_alone g address text tree reads list are
-listed g address text tree reads (Err e) are = tt
+pub listed : (setting : Setting) (address text : List ℕ) (tree : Parts) → Reads setting.grammar text (Whole tree) → {E : Type 0} (r : Result (List Shown) E) →
+    IfOk r (AreShown setting (alone_at address tree) address tree text) → IfOk r (IsListAlone setting address text)
+listed setting address text tree reads (Ok list) are = told_alone setting address text tree reads list are
+listed setting address text tree reads (Err e) are = tt

@@ -5,6 +5,7 @@ ghost use Rattle.lw_reading.specs.Reading.{Reads};
 ghost use Rattle.lw_reading.specs.declared.parsed.Parsed.TheVariants.{Whole};
 ghost use Rattle.lw_reading.specs.Within.{StandsInText};
 ghost use Rattle.lw_link_rules.specs.Diagnostics.{IsListAlone};
+ghost use Rattle.lw_lang.specs.Language.{setting_of};
 
 use lw_base::{Items, NoMemory};
 use lw_check::{diagnostics_alone, issue_diagnostic};
@@ -29,7 +30,7 @@ pub struct Told {
 /// tree and its symbols.
 pub fn tell(alloc: Global, language: &Language, document: &TextDoc) -> Result<Told, NoMemory>
     ensures reads { IfOk result (λ told. Reads language.now.grammar document.now told.parsed) }
-    ensures list { (address : List ℕ) → IfOk result (λ told. IsListAlone language.now.grammar address document.now told.list) }
+    ensures list { (address : List ℕ) → IfOk result (λ told. IsListAlone (setting_of language.now) address document.now told.list) }
 {
     let parsed = language.read(alloc, document.as_name())?;
     let list = diagnostics(alloc, language, document, &parsed)?;
@@ -47,7 +48,7 @@ fn diagnostics(
     requires named { IfBroken parsed.now (IsNamed language.now.texts) }
     requires within { IfBroken parsed.now (IsIssueWithin document.now) }
     requires stands { IfWhole parsed.now (StandsInText document.now) }
-    ensures { (address : List ℕ) → IfOk result (IsListAlone language.now.grammar address document.now) }
+    ensures { (address : List ℕ) → IfOk result (IsListAlone (setting_of language.now) address document.now) }
 {
     match parsed {
         Parsed::Whole(tree) => tree_diagnostics(alloc, language, document, tree),
@@ -68,7 +69,7 @@ fn tree_diagnostics(
 ) -> Result<Items<Shown>, NoMemory>
     requires reads { Reads language.now.grammar document.now (Whole tree.now) }
     requires stands { StandsInText document.now tree.now }
-    ensures { (address : List ℕ) → IfOk result (IsListAlone language.now.grammar address document.now) }
+    ensures { (address : List ℕ) → IfOk result (IsListAlone (setting_of language.now) address document.now) }
 {
     let types = language.types();
     let locals = Locals::of_tree(alloc, tree)?;

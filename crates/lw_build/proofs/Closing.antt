@@ -5,7 +5,7 @@ use Rattle.std.proofs.lemmas.Option.{same_Some, none-some}
 use Rattle.lw_base.specs.declared.numbers.DocId.{DocId}
 use Rattle.lw_docs.specs.Documents.{AreNumbered, ByAddress, IsHeld, Numbered, Turns, numbered}
 use Rattle.lw_docs.specs.declared.doc.Doc.{Doc}
-use Rattle.lw_grammar.specs.declared.grammar.Grammar.{Grammar}
+use Rattle.lw_link_rules.specs.Setting.{Setting}
 use Rattle.lw_machine.specs.Documents.{Document, shown_texts}
 use Rattle.lw_machine.specs.Validity.{AreCurrent, IsCurrent}
 use Rattle.lw_machine.proofs.Places.{one_or_two}
@@ -67,7 +67,7 @@ shut_alike kept after d (x, at) turns a =
     shut : Numbered
     shut = numbered d (record x { version = None; is_open = false })
 
-module _ (g : Grammar) (kept after : ByAddress) (alike : LastAlike kept after) where
+module _ (setting : Setting) (kept after : ByAddress) (alike : LastAlike kept after) where
   shown_lasting : (m : ByAddress) (a : List ℕ) → shown_texts (documents_of true m) a ≡ option_map (λ (l : Lasting). l.text) (option_map lasting (get m a))
   shown_lasting m a = ap (option_and_then (λ (d : Document). d.shown)) (get_document true m a) ∙ by (get m a)
     where
@@ -79,39 +79,39 @@ module _ (g : Grammar) (kept after : ByAddress) (alike : LastAlike kept after) w
   same_shown : (a : List ℕ) → shown_texts (documents_of true after) a ≡ shown_texts (documents_of true kept) a
   same_shown a = shown_lasting after a ∙ ap (option_map (λ (l : Lasting). l.text)) (alike a) ∙ sym (shown_lasting kept a)
 
-  still_current : AreCurrent g (documents_of true kept) → AreCurrent g (documents_of true after)
+  still_current : AreCurrent setting (documents_of true kept) → AreCurrent setting (documents_of true after)
   still_current current a d at =
       let (now, there, same) = held_here true after a d at in
       let (held, here, like) = partner lasting (get after a) (get kept a) (alike a) now there in
       let (list, published, are_list) = (current a (document_of true held) (get_document true kept a ∙ ap (option_map (document_of true)) here)).told in
-      subst (IsCurrent g (documents_of true after) a) same (record {
+      subst (IsCurrent setting (documents_of true after) a) same (record {
         state = refl;
         shown = refl;
         told = (
           list,
           ap (λ (l : Lasting). l.published) like ∙ published,
-          subst (λ t. AreDiagnostics g t a list) (λ i b. sym (same_shown b) i) are_list,
+          subst (λ t. AreDiagnostics setting t a list) (λ i b. sym (same_shown b) i) are_list,
         );
       })
 
-  pub still_built : AreBuilt g kept → AreBuilt g after
+  pub still_built : AreBuilt setting kept → AreBuilt setting after
   still_built built = record {
     current = still_current built.current;
     readable = λ a now there.
         let (held, here, like) = partner lasting (get after a) (get kept a) (alike a) now there in
-        subst (IsReadable g) (sym (ap (λ (l : Lasting). l.text) like)) (built.readable a held here);
+        subst (IsReadable setting.grammar) (sym (ap (λ (l : Lasting). l.text) like)) (built.readable a held here);
   }
 
-  pub still_read : (texts : List (List ℕ)) (readings : Readings) → AreDocumentsRead g texts kept readings → AreDocumentsRead g texts after readings
-  still_read texts = read_still g texts kept after (λ a held at.
+  pub still_read : (texts : List (List ℕ)) (readings : Readings) → AreDocumentsRead setting.grammar texts kept readings → AreDocumentsRead setting.grammar texts after readings
+  still_read texts = read_still setting.grammar texts kept after (λ a held at.
       let (now, there, like) = partner lasting (get kept a) (get after a) (sym (alike a)) held at in (
         now,
         there,
         record { number = ap (λ (l : Lasting). l.number) like; uri = ap (λ (l : Lasting). l.uri) like; text = ap (λ (l : Lasting). l.text) like },
       ))
 
-  pub still_linked : (readings : Readings) (led : Led) → AreLinked g kept readings led → AreLinked g after readings led
-  still_linked = linked_still g kept after (λ a. number_lasting (get after a) ∙ ap (option_map (λ (l : Lasting). l.number.0)) (alike a) ∙ sym (number_lasting (get kept a)))
+  pub still_linked : (readings : Readings) (led : Led) → AreLinked setting kept readings led → AreLinked setting after readings led
+  still_linked = linked_still setting kept after (λ a. number_lasting (get after a) ∙ ap (option_map (λ (l : Lasting). l.number.0)) (alike a) ∙ sym (number_lasting (get kept a)))
     where
       number_lasting : (o : Option Numbered) → option_map (λ (h : Numbered). h.number.0) o ≡ option_map (λ (l : Lasting). l.number.0) (option_map lasting o)
       number_lasting None = refl

@@ -7,7 +7,7 @@ use Rattle.lw_base.specs.declared.limits.TheConstants.{LONGEST_TEXT}
 use Rattle.lw_base.specs.declared.numbers.DocId.{DocId}
 use Rattle.lw_docs.specs.Documents.{AreNumbered, ByAddress, IsAt, IsHeld, Numbered, numbered}
 use Rattle.lw_docs.specs.declared.doc.Doc.{Doc}
-use Rattle.lw_grammar.specs.declared.grammar.Grammar.{Grammar}
+use Rattle.lw_link_rules.specs.Setting.{Setting}
 use Rattle.lw_machine.specs.Documents.{Documents}
 use Rattle.lw_text.specs.Changes.{AreMade, Changes, made}
 use Rattle.lw_text.specs.declared.change.Change.{Change}
@@ -49,8 +49,8 @@ module _ (kept : ByAddress) (a : List ℕ) where
 
 -- ---- workspaces that are seen alike
 
-pub seen : (w : WorkspaceView) (g : Grammar) (kept : ByAddress) (n : Documents) → w.grammar ≡ g → w.kept ≡ kept → Agrees (view g kept w.is_built) n → Agrees w n
-seen w g kept n p q = subst (λ v. Agrees v n) (λ i. record { grammar = sym p i; kept = sym q i; is_built = w.is_built })
+pub seen : (w : WorkspaceView) (setting : Setting) (kept : ByAddress) (n : Documents) → w.setting ≡ setting → w.kept ≡ kept → Agrees (view setting kept w.is_built) n → Agrees w n
+seen w setting kept n p q = subst (λ v. Agrees v n) (λ i. record { setting = sym p i; kept = sym q i; is_built = w.is_built })
 
 -- ---- results
 

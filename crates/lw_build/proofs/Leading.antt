@@ -8,10 +8,10 @@ use Rattle.std.proofs.lemmas.Option.{none-some}
 use Rattle.lw_base.specs.declared.numbers.DocId.{DocId}
 use Rattle.lw_docs.specs.Documents.{AreNumbered, ByAddress, IsAt, Numbered, numbered}
 use Rattle.lw_docs.specs.declared.doc.Doc.{Doc}
-use Rattle.lw_grammar.specs.declared.grammar.Grammar.{Grammar}
+use Rattle.lw_link_rules.specs.Setting.{Setting}
 use Rattle.lw_index.specs.declared.parts.Answer.{Answer}
 use Rattle.lw_index.specs.Led.{Led, answers_in}
-use Rattle.lw_link_rules.specs.Links.{IsNumberBelow}
+use Rattle.lw_link_rules.specs.Links.{rules_of}
 use Rattle.lw_build.specs.Linked.{AreLinkAnswers, AreLinksKept, OnlyReadLead, StandsNumbered}
 use Rattle.lw_build.specs.Readings.{HasReading, reading_at, tree_numbered, trees_of}
 use Rattle.lw_build.specs.declared.readings.Reading.{Reading}
@@ -66,45 +66,45 @@ unread_linked readings led after d (reading, is) unread others n none = elim (ca
 -- ---- the links of documents
 
 -- the document at a place is linked
-pub record IsPlaceLinked (g : Grammar) (kept : ByAddress) (readings : Readings) (led : Led) (p : List ℕ × DocId) : Type 0 where
+pub record IsPlaceLinked (setting : Setting) (kept : ByAddress) (readings : Readings) (led : Led) (p : List ℕ × DocId) : Type 0 where
   pub held : Numbered
   pub at : get kept p.0 ≡ Some held
   pub number : held.number ≡ p.1
-  pub links : AreLinksKept g kept readings led p.0 p.1.0
+  pub links : AreLinksKept setting kept readings led p.0 p.1.0
 
-module _ (g : Grammar) (kept : ByAddress) (are : AreNumbered kept) (readings : Readings) (led after : Led) (d : DocId) (doc : Doc) (at : IsAt kept d doc)
-    (now : AreLinksKept g kept readings after doc.uri d.0) (others : (n : ℕ) → n ≢ d.0 → answers_in after n ≡ answers_in led n) where
+module _ (setting : Setting) (kept : ByAddress) (are : AreNumbered kept) (readings : Readings) (led after : Led) (d : DocId) (doc : Doc) (at : IsAt kept d doc)
+    (now : AreLinksKept setting kept readings after doc.uri d.0) (others : (n : ℕ) → n ≢ d.0 → answers_in after n ≡ answers_in led n) where
   -- where one more is linked
-  pub place_still : (p : List ℕ × DocId) → IsPlaceLinked g kept readings led p → IsPlaceLinked g kept readings after p
+  pub place_still : (p : List ℕ × DocId) → IsPlaceLinked setting kept readings led p → IsPlaceLinked setting kept readings after p
   place_still p is = record { held = is.held; at = is.at; number = is.number; links = links }
     where
-      links : AreLinksKept g kept readings after p.0 p.1.0
+      links : AreLinksKept setting kept readings after p.0 p.1.0
       links = elim (cases_eq p.1.0 d.0) [
         | inl same ↦
             let number : is.held.number ≡ d = is.number ∙ (λ i. record { 0 = same i }) in
             let address : doc.uri ≡ p.0 = are.apart doc.uri p.0 (numbered d doc) is.held at is.at (sym number) in
-            subst (λ n. AreLinksKept g kept readings after p.0 n) (sym same) (subst (λ a. AreLinksKept g kept readings after a d.0) address now)
+            subst (λ n. AreLinksKept setting kept readings after p.0 n) (sym same) (subst (λ a. AreLinksKept setting kept readings after a d.0) address now)
         | inr other ↦
             subst (λ (answers : List Answer).
-            AreLinkAnswers (IsNumberBelow g) (StandsNumbered kept) (trees_of kept readings) p.0 (tree_numbered readings p.1.0) answers)
+            AreLinkAnswers (rules_of setting) (StandsNumbered kept) (trees_of kept readings) p.0 (tree_numbered readings p.1.0) answers)
             (sym (others p.1.0 other)) is.links
       ]
 
-  pub place_now : IsPlaceLinked g kept readings after (doc.uri, d)
+  pub place_now : IsPlaceLinked setting kept readings after (doc.uri, d)
   place_now = record { held = numbered d doc; at = at; number = refl; links = now }
 
   -- each is as it was at the start, or linked
-  pub waits_still : (start : Led) → ((n : ℕ) → (answers_in led n ≡ answers_in start n) ⊎ IsLinkedHere g kept readings led n) →
-      (n : ℕ) → (answers_in after n ≡ answers_in start n) ⊎ IsLinkedHere g kept readings after n
+  pub waits_still : (start : Led) → ((n : ℕ) → (answers_in led n ≡ answers_in start n) ⊎ IsLinkedHere setting kept readings led n) →
+      (n : ℕ) → (answers_in after n ≡ answers_in start n) ⊎ IsLinkedHere setting kept readings after n
   waits_still start waits n = elim (cases_eq n d.0) [
     | inl same ↦ inr (λ address stands.
         let (held, there, number) = held_numbered kept n address stands in
         let uri : doc.uri ≡ address = are.apart doc.uri address (numbered d doc) held at there (λ i. record { 0 = (sym same ∙ sym number) i }) in
-        subst (λ m. AreLinksKept g kept readings after address m) (sym same) (subst (λ a. AreLinksKept g kept readings after a d.0) uri now))
+        subst (λ m. AreLinksKept setting kept readings after address m) (sym same) (subst (λ a. AreLinksKept setting kept readings after a d.0) uri now))
     | inr other ↦ elim (waits n) [
       | inl was ↦ inl (others n other ∙ was)
       | inr linked ↦ inr (λ address stands.
-          subst (λ (answers : List Answer). AreLinkAnswers (IsNumberBelow g) (StandsNumbered kept) (trees_of kept readings) address (tree_numbered readings n) answers)
+          subst (λ (answers : List Answer). AreLinkAnswers (rules_of setting) (StandsNumbered kept) (trees_of kept readings) address (tree_numbered readings n) answers)
           (sym (others n other)) (linked address stands))
     ]
   ]

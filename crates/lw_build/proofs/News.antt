@@ -5,7 +5,7 @@ use Rattle.std.proofs.lemmas.Option.{same_Some, none-some}
 use Rattle.lw_base.specs.declared.numbers.DocId.{DocId}
 use Rattle.lw_docs.specs.Documents.{AreNumbered, ByAddress, IsHeld, Numbered, Turns, numbered}
 use Rattle.lw_docs.specs.declared.doc.Doc.{Doc}
-use Rattle.lw_grammar.specs.declared.grammar.Grammar.{Grammar}
+use Rattle.lw_link_rules.specs.Setting.{Setting}
 use Rattle.lw_machine.specs.Building.{publication}
 use Rattle.lw_machine.specs.declared.published.Published.{Published}
 use Rattle.lw_machine.proofs.Places.{Among, first, later, one_or_two}
@@ -38,11 +38,11 @@ held_place kept address held at = among_map (λ (e : List ℕ × Numbered). (e.0
 
 -- ---- what is told
 
-module _ (g : Grammar) (kept : ByAddress) where
+module _ (setting : Setting) (kept : ByAddress) where
   -- one more is told
-  pub told_more : (places : List (List ℕ × DocId)) (own : List (DocId × List Shown)) (lists : List Published) → AreListsTold g kept places own lists →
-      (p : List ℕ × DocId) (mine : List (DocId × List Shown)) (news : List Published) → AreListsTold g kept (p ∷ []) mine news →
-      AreListsTold g kept (places ++ p ∷ []) (own ++ mine) (lists ++ news)
+  pub told_more : (places : List (List ℕ × DocId)) (own : List (DocId × List Shown)) (lists : List Published) → AreListsTold setting kept places own lists →
+      (p : List ℕ × DocId) (mine : List (DocId × List Shown)) (news : List Published) → AreListsTold setting kept (p ∷ []) mine news →
+      AreListsTold setting kept (places ++ p ∷ []) (own ++ mine) (lists ++ news)
   told_more places own lists telling.none p mine news one = one
   told_more places own lists (telling.same at are is rest) p mine news one = telling.same at are is (told_more _ _ _ rest p mine news one)
   told_more places own lists (telling.other at are is rest) p mine news one = telling.other at are is (told_more _ _ _ rest p mine news one)
@@ -52,13 +52,13 @@ module _ (g : Grammar) (kept : ByAddress) where
     pub doc : Doc
     pub at : get kept address ≡ Some (numbered d doc)
     pub list : List Shown
-    pub are : AreDiagnostics g (present_texts_of kept) address list
+    pub are : AreDiagnostics setting (present_texts_of kept) address list
     pub is : (doc.published ≡ Some list) ⊎ Contains own (d, list)
 
   wider : (own : List (DocId × List Shown)) (e : DocId × List Shown) (address : List ℕ) (d : DocId) → HasOwn own address d → HasOwn (e ∷ own) address d
   wider own e address d has = record { doc = has.doc; at = has.at; list = has.list; are = has.are; is = elim has.is [ inl last ↦ inl last | inr new ↦ inr (there e own _ new) ] }
 
-  pub own_at : (places : List (List ℕ × DocId)) (own : List (DocId × List Shown)) (lists : List Published) → AreListsTold g kept places own lists →
+  pub own_at : (places : List (List ℕ × DocId)) (own : List (DocId × List Shown)) (lists : List Published) → AreListsTold setting kept places own lists →
       (address : List ℕ) (d : DocId) → Among (address, d) places → HasOwn own address d
   own_at places own lists telling.none address d among = elim among [ ]
   own_at places own lists (telling.same {doc = doc} {list = list} at are is rest) address d first = record { doc = doc; at = at; list = list; are = are; is = inl is }
@@ -72,9 +72,9 @@ module _ (g : Grammar) (kept : ByAddress) where
     pub address : List ℕ
     pub doc : Doc
     pub at : get kept address ≡ Some (numbered d doc)
-    pub are : AreDiagnostics g (present_texts_of kept) address list
+    pub are : AreDiagnostics setting (present_texts_of kept) address list
 
-  pub is_news : (places : List (List ℕ × DocId)) (own : List (DocId × List Shown)) (lists : List Published) → AreListsTold g kept places own lists →
+  pub is_news : (places : List (List ℕ × DocId)) (own : List (DocId × List Shown)) (lists : List Published) → AreListsTold setting kept places own lists →
       (d : DocId) (list : List Shown) → Contains own (d, list) → IsNews d list
   is_news places own lists telling.none d list has = absurd (nothing (d, list) has)
   is_news places own lists (telling.same at are is rest) d list has = is_news _ _ _ rest d list has
@@ -86,13 +86,13 @@ module _ (g : Grammar) (kept : ByAddress) where
 
   -- the lists of one document
   pub told_one : (address : List ℕ) (d : DocId) (doc : Doc) (list : List Shown) → get kept address ≡ Some (numbered d doc) → doc.uri ≡ address →
-      AreDiagnostics g (present_texts_of kept) address list → (places : List (List ℕ × DocId)) (before after : News) → AreListsTold g kept places before.own.items before.lists →
-      AddsList d doc list before after → AreListsTold g kept (places ++ (address, d) ∷ []) after.own.items after.lists
+      AreDiagnostics setting (present_texts_of kept) address list → (places : List (List ℕ × DocId)) (before after : News) → AreListsTold setting kept places before.own.items before.lists →
+      AddsList d doc list before after → AreListsTold setting kept (places ++ (address, d) ∷ []) after.own.items after.lists
   told_one address d doc list at uri are places before after told (telling.same is own lists) =
-      subst₂ (λ o l. AreListsTold g kept (places ++ (address, d) ∷ []) o l) (with_nothing before.own.items ∙ sym own) (with_nothing before.lists ∙ sym lists)
+      subst₂ (λ o l. AreListsTold setting kept (places ++ (address, d) ∷ []) o l) (with_nothing before.own.items ∙ sym own) (with_nothing before.lists ∙ sym lists)
       (told_more places before.own.items before.lists told (address, d) [] [] (telling.same at are is telling.none))
   told_one address d doc list at uri are places before after told (telling.other is own lists) =
-      subst₂ (λ o l. AreListsTold g kept (places ++ (address, d) ∷ []) o l) (sym own)
+      subst₂ (λ o l. AreListsTold setting kept (places ++ (address, d) ∷ []) o l) (sym own)
       (ap (λ (a : List ℕ). before.lists ++ publication a doc.version list ∷ []) (sym uri) ∙ sym lists)
       (told_more places before.own.items before.lists told (address, d) ((d, list) ∷ []) (publication address doc.version list ∷ []) (telling.other at are is telling.none))
 

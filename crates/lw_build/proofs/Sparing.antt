@@ -9,6 +9,7 @@ use Rattle.std.proofs.lemmas.Bool.{false≢true}
 use Rattle.std.proofs.lemmas.Option.{same_Some, none-some}
 use Rattle.lw_docs.specs.Documents.{AreNumbered, ByAddress, Numbered}
 use Rattle.lw_grammar.specs.declared.grammar.Grammar.{Grammar}
+use Rattle.lw_link_rules.specs.Setting.{Setting}
 use Rattle.lw_index.specs.Exported.{export_of}
 use Rattle.lw_index.specs.Indexed.{exports_in}
 use Rattle.lw_index.specs.declared.parts.Answer.{Answer}
@@ -21,7 +22,7 @@ use Rattle.lw_query.specs.Viewed.{IsLinkAnswer, LeadsAs}
 use Rattle.lw_index.specs.Led.{Led, answers_in}
 use Rattle.lw_link_rules.specs.Diagnostics as diagnostic
 use Rattle.lw_link_rules.specs.Diagnostics.{AreDiagnostics}
-use Rattle.lw_link_rules.specs.Links.{IsNumberBelow}
+use Rattle.lw_link_rules.specs.Links.{rules_of}
 use Rattle.lw_scoping.specs.Links.{Link, LinksTo, Trees, own, out, nowhere}
 use Rattle.lw_scoping.specs.Symbols.{IsNamedNode, exports}
 use Rattle.lw_text.specs.declared.shown.Shown.{Shown}
@@ -56,17 +57,17 @@ tree_held kept readings address tree is = by (get kept address) refl
     by None none = absurd (none-some tree (sym (ap (option_and_then (tree_of_held readings)) none) ∙ is))
     by (Some held) at = (held, at, sym (ap (option_and_then (tree_of_held readings)) at) ∙ is)
 
-pub untouched_or_not : (kept : ByAddress) (standing : Standing) (g : Grammar) (readings : Readings) (led : Led) (address : List ℕ) →
-    IsUntouchedAt g kept readings led standing address ⊎ (¬ IsUntouchedAt g kept readings led standing address)
-untouched_or_not kept standing g readings led address = by (get kept address) refl
+pub untouched_or_not : (kept : ByAddress) (standing : Standing) (setting : Setting) (readings : Readings) (led : Led) (address : List ℕ) →
+    IsUntouchedAt setting kept readings led standing address ⊎ (¬ IsUntouchedAt setting kept readings led standing address)
+untouched_or_not kept standing setting readings led address = by (get kept address) refl
   where
     told : (held : Numbered) → get kept address ≡ Some held → (b : Bool) → contains nat_cmp standing.untouched held.number.0 ≡ b →
-        IsUntouchedAt g kept readings led standing address ⊎ (¬ IsUntouchedAt g kept readings led standing address)
+        IsUntouchedAt setting kept readings led standing address ⊎ (¬ IsUntouchedAt setting kept readings led standing address)
     told held at true is = inl (held, at, is)
     told held at false isnt = inr (λ u. false≢true (sym isnt ∙ ap (λ (h : Numbered). contains nat_cmp standing.untouched h.number.0) (same_Some held u.0 (sym at ∙ u.1)) ∙ u.2))
 
     by : (o : Option Numbered) → get kept address ≡ o →
-        IsUntouchedAt g kept readings led standing address ⊎ (¬ IsUntouchedAt g kept readings led standing address)
+        IsUntouchedAt setting kept readings led standing address ⊎ (¬ IsUntouchedAt setting kept readings led standing address)
     by None none = inr (λ u. none-some u.0 (sym none ∙ u.1))
     by (Some held) at = told held at (contains nat_cmp standing.untouched held.number.0) refl
 
@@ -91,14 +92,14 @@ module _ (g : Grammar) (texts : List (List ℕ)) (kept : ByAddress) (readings : 
 
 -- ---- what stands
 
-module _ (g : Grammar) (kept : ByAddress) (are : AreNumbered kept) (readings : Readings) (led : Led) (standing : Standing)
-    (since : StandsBuilt g kept readings led standing) where
+module _ (setting : Setting) (kept : ByAddress) (are : AreNumbered kept) (readings : Readings) (led : Led) (standing : Standing)
+    (since : StandsBuilt setting kept readings led standing) where
   abbrev Untouched : List ℕ → Type 0
-  Untouched = IsUntouchedAt g kept readings led standing
+  Untouched = IsUntouchedAt setting kept readings led standing
 
   -- the document at an address, as it was built
   pub was_built : (address : List ℕ) (held : Numbered) → get kept address ≡ Some held → IsUntouched standing held.number.0 →
-      (w : WasBuilt g kept readings led standing since.trees held.number.0) × (w.held ≡ held)
+      (w : WasBuilt setting kept readings led standing since.trees held.number.0) × (w.held ≡ held)
   was_built address held at untouched =
       let w = since.each held.number.0 untouched in
       let uri = are.apart w.held.doc.uri address w.held held w.here at (λ i. record { 0 = w.number i }) in
@@ -110,52 +111,52 @@ module _ (g : Grammar) (kept : ByAddress) (are : AreNumbered kept) (readings : R
       let (w, same) = was_built address held at untouched in
       ap since.trees (sym (are.addresses address held at) ∙ ap (λ (h : Numbered). h.doc.uri) (sym same)) ∙ w.is_tree ∙ sym (ap (option_and_then tree_of) w.read)
 
-  module _ (texts : List (List ℕ)) (read : AreDocumentsRead g texts kept readings) (all : AreAllRead kept readings) (entered : AreEntered kept readings standing) where
+  module _ (texts : List (List ℕ)) (read : AreDocumentsRead setting.grammar texts kept readings) (all : AreAllRead kept readings) (entered : AreEntered kept readings standing) where
     abbrev after : Trees
     after = trees_of kept readings
 
     -- what has a name that did not change is exported as it was
     alike : (name : List ℕ) → ¬ IsChangedName standing name → AreAlikeBy since.trees after name
-    alike name still a = elim (untouched_or_not kept standing g readings led a) [
+    alike name still a = elim (untouched_or_not kept standing setting readings led a) [
       | inl u ↦ inl (tree_before a u.0 u.1 u.2 ∙ sym (ap (option_and_then (tree_of_held readings)) u.1))
       | inr not ↦ inr (
         (λ tree node type is has named. still (since.elsewhere a tree is not node type name has named)),
         (λ tree node type is has named.
             let (held, at, there) = tree_held kept readings a tree is in
             still (entered a held at (λ untouched. not (held, at, untouched)) (export_of name type node)
-            (entry_there g texts kept readings read held.number.0 tree there node type name has named))),
+            (entry_there setting.grammar texts kept readings read held.number.0 tree there node type name has named))),
       )
     ]
 
     module _ (address : List ℕ) (here : Untouched address) (tree : Parts) where
       -- what is led to stands, or its name changed
-      reaches : (r : Reference) → ¬ IsChangedName standing r.name → (link : Link) → LinksTo (IsNumberBelow g) since.trees address tree r link → (b : List ℕ) (node : ℕ) →
+      reaches : (r : Reference) → ¬ IsChangedName standing r.name → (link : Link) → LinksTo (rules_of setting) since.trees address tree r link → (b : List ℕ) (node : ℕ) →
           link ≡ Some (b, node) → Untouched b
       reaches r still link (own {n = n} is) b node same = subst Untouched (ap (λ (p : List ℕ × ℕ). p.0) (same_Some (address, n) (b, node) same)) here
       reaches r still link (out {place = place} is fits least) b node same =
-          subst Untouched (ap (λ (p : List ℕ × ℕ). p.0) (same_Some place (b, node) same)) (elim (untouched_or_not kept standing g readings led place.0) [
+          subst Untouched (ap (λ (p : List ℕ × ℕ). p.0) (same_Some place (b, node) same)) (elim (untouched_or_not kept standing setting readings led place.0) [
             | inl u ↦ u
             | inr not ↦ (let (other, there, has, (type, named, under)) = fits in absurd (still (since.elsewhere place.0 other there not place.1 type r.name has named)))
           ])
       reaches r still link (nowhere is misses) b node same = absurd (none-some (b, node) same)
 
       answer_still : (r : Reference) (answer : Answer) → ¬ IsChangedName standing r.name →
-          IsLinkAnswer (IsNumberBelow g) (StoodNumbered g kept readings led standing) since.trees address tree r answer →
-          IsLinkAnswer (IsNumberBelow g) (StandsNumbered kept) after address tree r answer
+          IsLinkAnswer (rules_of setting) (StoodNumbered setting kept readings led standing) since.trees address tree r answer →
+          IsLinkAnswer (rules_of setting) (StandsNumbered kept) after address tree r answer
       answer_still r answer still is = record {
         link = is.link;
         leads = by answer is.link is.leads (reaches r still is.link is.is_link);
-        is_link = links_over (IsNumberBelow g) since.trees after address tree r (alike r.name still) is.link is.is_link;
+        is_link = links_over (rules_of setting) since.trees after address tree r (alike r.name still) is.link is.is_link;
       }
         where
-          by : (given : Answer) (link : Link) → LeadsAs (StoodNumbered g kept readings led standing) given link →
+          by : (given : Answer) (link : Link) → LeadsAs (StoodNumbered setting kept readings led standing) given link →
               ((b : List ℕ) (node : ℕ) → link ≡ Some (b, node) → Untouched b) → LeadsAs (StandsNumbered kept) given link
           by given link (viewed.found {doc = doc} {node = node} {address = b} stood) untouched = viewed.found (stood (untouched b node refl))
           by given link viewed.missing untouched = viewed.missing
 
       answers_still : (refs : List Reference) (answers : List Answer) → ((r : Reference) → Contains refs r → ¬ IsChangedName standing r.name) →
-          AllZip (IsLinkAnswer (IsNumberBelow g) (StoodNumbered g kept readings led standing) since.trees address tree) refs answers →
-          AllZip (IsLinkAnswer (IsNumberBelow g) (StandsNumbered kept) after address tree) refs answers
+          AllZip (IsLinkAnswer (rules_of setting) (StoodNumbered setting kept readings led standing) since.trees address tree) refs answers →
+          AllZip (IsLinkAnswer (rules_of setting) (StandsNumbered kept) after address tree) refs answers
       answers_still [] [] still all = tt
       answers_still [] (y ∷ ys) still all = absurd all
       answers_still (x ∷ xs) [] still all = absurd all
@@ -166,38 +167,38 @@ module _ (g : Grammar) (kept : ByAddress) (are : AreNumbered kept) (readings : R
 
     links_still : (address : List ℕ) → Untouched address → (o : Option Parts) (answers : List Answer) →
         ((tree : Parts) → o ≡ Some tree → (r : Reference) → Contains tree.refs r → ¬ IsChangedName standing r.name) →
-        AreLinkAnswers (IsNumberBelow g) (StoodNumbered g kept readings led standing) since.trees address o answers →
-        AreLinkAnswers (IsNumberBelow g) (StandsNumbered kept) after address o answers
+        AreLinkAnswers (rules_of setting) (StoodNumbered setting kept readings led standing) since.trees address o answers →
+        AreLinkAnswers (rules_of setting) (StandsNumbered kept) after address o answers
     links_still address here o answers still linked.treeless = linked.treeless
     links_still address here o answers still (linked.whole {tree = tree} {answers = found} all) =
         linked.whole (answers_still address here tree tree.refs found (still tree refl) all)
 
     -- the list of a document whose text was read so
-    list_still : (address text : List ℕ) (reading : Reading) → present_texts_of kept address ≡ Some text → IsReadingOfText g texts text reading →
+    list_still : (address text : List ℕ) (reading : Reading) → present_texts_of kept address ≡ Some text → IsReadingOfText setting.grammar texts text reading →
         after address ≡ tree_of reading → ((tree : Parts) → tree_of reading ≡ Some tree → (r : Reference) → Contains tree.refs r → ¬ IsChangedName standing r.name) →
         ((tree : Parts) → tree_of reading ≡ Some tree → (n type : ℕ) (name : List ℕ) → Contains (exports tree) n → IsNamedNode tree n name type →
-        ¬ IsChangedName standing name) → (list : List Shown) → IsToldOver g since.trees address text reading list →
-        AreDiagnostics g (present_texts_of kept) address list
+        ¬ IsChangedName standing name) → (list : List Shown) → IsToldOver setting since.trees address text reading list →
+        AreDiagnostics setting (present_texts_of kept) address list
     list_still address text (Whole tree locals) there reads is refs names list (diagnostics, right, shown) = record {
       text = text;
       is_shown = there;
-      is_list = diagnostic.whole after (are_trees g texts kept are readings read all) is
-          (diagnostics_over g address tree since.trees after (λ r has. alike r.name (refs tree refl r has))
+      is_list = diagnostic.whole after (are_trees setting.grammar texts kept are readings read all) is
+          (diagnostics_over setting address tree since.trees after (λ r has. alike r.name (refs tree refl r has))
           (λ n type name has named. alike name (names tree refl n type name has named)) diagnostics right)
           shown;
     }
     list_still address text (Broken issue) there reads is refs names list (shown, says, one) = record {
       text = text;
       is_shown = there;
-      is_list = subst (diagnostic.IsList g (present_texts_of kept) address text) (sym one) (diagnostic.broken reads.0 says);
+      is_list = subst (diagnostic.IsList setting (present_texts_of kept) address text) (sym one) (diagnostic.broken reads.0 says);
     }
 
     -- the document of a number stands as it was built
     pub record StandsStill (address : List ℕ) (held : Numbered) : Type 0 where
-      pub links : AreLinksKept g kept readings led address held.number.0
+      pub links : AreLinksKept setting kept readings led address held.number.0
       pub list : List Shown
       pub published : held.doc.published ≡ Some list
-      pub listed : AreDiagnostics g (present_texts_of kept) address list
+      pub listed : AreDiagnostics setting (present_texts_of kept) address list
 
     pub stands_still : (held : Numbered) → get kept held.doc.uri ≡ Some held → IsUntouched standing held.number.0 → (reading : Reading) →
         reading_at readings held.number.0 ≡ Some reading → NamesNoChange standing reading (exports_in readings.index held.number.0) → StandsStill held.doc.uri held
@@ -205,19 +206,19 @@ module _ (g : Grammar) (kept : ByAddress) (are : AreNumbered kept) (readings : R
         let address = held.doc.uri in
         let (w, same) = was_built address held at untouched in
         let one : w.reading ≡ reading = same_Some w.reading reading (sym w.read ∙ is) in
-        let (r, its) = own_reading g texts kept are readings read held.number held.doc at reading is in
+        let (r, its) = own_reading setting.grammar texts kept are readings read held.number held.doc at reading is in
         record {
-          links = subst (λ (o : Option Parts). AreLinkAnswers (IsNumberBelow g) (StandsNumbered kept) after address o (answers_in led held.number.0))
+          links = subst (λ (o : Option Parts). AreLinkAnswers (rules_of setting) (StandsNumbered kept) after address o (answers_in led held.number.0))
               (sym (ap (option_and_then tree_of) is))
               (links_still address (held, at, untouched) (tree_of reading) (answers_in led held.number.0) names.0
               (subst₂ (λ (h : Numbered) (x : Reading).
-              AreLinkAnswers (IsNumberBelow g) (StoodNumbered g kept readings led standing) since.trees h.doc.uri (tree_of x) (answers_in led held.number.0)) same one w.links));
+              AreLinkAnswers (rules_of setting) (StoodNumbered setting kept readings led standing) since.trees h.doc.uri (tree_of x) (answers_in led held.number.0)) same one w.links));
           list = w.list;
           published = ap (λ (h : Numbered). h.doc.published) (sym same) ∙ w.published;
           listed = list_still address held.doc.text reading (ap (option_map (λ (h : Numbered). h.doc.text)) at)
-              (subst (λ (h : Numbered). IsReadingOfText g texts h.doc.text reading) its r.reads) (tree_at kept readings address held reading at is) names.0
+              (subst (λ (h : Numbered). IsReadingOfText setting.grammar texts h.doc.text reading) its r.reads) (tree_at kept readings address held reading at is) names.0
               (λ tree tree_is n type name has named. names.1 (export_of name type n)
-              (entry_there g texts kept readings read held.number.0 tree (ap (option_and_then tree_of) is ∙ tree_is) n type name has named))
+              (entry_there setting.grammar texts kept readings read held.number.0 tree (ap (option_and_then tree_of) is ∙ tree_is) n type name has named))
               w.list
-              (subst₂ (λ (h : Numbered) (x : Reading). IsToldOver g since.trees h.doc.uri h.doc.text x w.list) same one w.told);
+              (subst₂ (λ (h : Numbered) (x : Reading). IsToldOver setting since.trees h.doc.uri h.doc.text x w.list) same one w.told);
         }

@@ -1,14 +1,15 @@
 -- Where references lead, and what a document is told, depends on the exports of the names that it looks for and exports, and on no others.
 use Rattle.std.proofs.Common.{◌≡◌, ◌⊎◌, inl, inr, ℕ, List, Option, Some, None, Contains, sym, ◌∙◌}
-use Rattle.lw_grammar.specs.declared.grammar.Grammar.{Grammar}
+use Rattle.lw_link_rules.specs.Setting.{Setting}
 use Rattle.lw_scoping.specs.Doubles.{DoesExport, IsLeastOther}
 use Rattle.lw_scoping.specs.Links.{FitsThere, Link, LinksTo, Trees}
 use Rattle.lw_scoping.specs.Symbols.{IsNamedNode, exports}
-use Rattle.lw_link_rules.specs.Links.{IsNumberBelow}
+use Rattle.lw_link_rules.specs.Links.{rules_of}
 use Rattle.lw_link_rules.specs.TreeDiagnostics.{AreDiagnosticsOf, Diagnostic, IsDiagnosticOf, also_exported, duplicate, number, unresolved}
 use Rattle.lw_link_rules.proofs.SameTables.{link_over}
 use Rattle.lw_tree.specs.declared.node.Reference.{Reference}
 use Rattle.lw_tree.specs.Parts.{Parts}
+use Rattle.lw_scoping.specs.Rules.{Rules}
 
 -- nothing is exported by this name
 abbrev pub ExportsNone : Option Parts → List ℕ → Type 0
@@ -31,11 +32,11 @@ fits_over below trees others r alike place (tree, is, has, (type, named, under))
   | inr none ↦ absurd (none.0 tree place.1 type is has named)
 ]
 
-pub links_over : (below : ℕ → ℕ → Type 0) (trees others : Trees) (address : List ℕ) (tree : Parts) (r : Reference) → AreAlikeBy trees others r.name → (link : Link) →
-    LinksTo below trees address tree r link → LinksTo below others address tree r link
-links_over below trees others address tree r alike =
-    link_over below trees others address tree tree r (λ n is. is) (fits_over below trees others r alike)
-    (fits_over below others trees r (turned trees others r.name alike))
+pub links_over : (rules : Rules) (trees others : Trees) (address : List ℕ) (tree : Parts) (r : Reference) → AreAlikeBy trees others r.name → (link : Link) →
+    LinksTo rules trees address tree r link → LinksTo rules others address tree r link
+links_over rules trees others address tree r alike =
+    link_over rules trees others address tree tree r (λ n is. is) (fits_over rules.below trees others r alike)
+    (fits_over rules.below others trees r (turned trees others r.name alike))
 
 exports_over : (trees others : Trees) (name : List ℕ) → AreAlikeBy trees others name → (type : ℕ) (a : List ℕ) → DoesExport trees name type a →
     DoesExport others name type a
@@ -52,12 +53,12 @@ least_over trees others name alike type address other is = record {
   least = λ a apart has. is.least a apart (exports_over others trees name (turned trees others name alike) type a has);
 }
 
-module _ (g : Grammar) (address : List ℕ) (tree : Parts) where
+module _ (setting : Setting) (address : List ℕ) (tree : Parts) where
   told_over : (trees others : Trees) → ((r : Reference) → Contains tree.refs r → AreAlikeBy trees others r.name) →
       ((n type : ℕ) (name : List ℕ) → Contains (exports tree) n → IsNamedNode tree n name type → AreAlikeBy trees others name) → (e : Diagnostic) →
-      IsDiagnosticOf g trees address tree e → IsDiagnosticOf g others address tree e
+      IsDiagnosticOf setting trees address tree e → IsDiagnosticOf setting others address tree e
   told_over trees others refs names e (unresolved r has leads typed) =
-      unresolved r has (links_over (IsNumberBelow g) trees others address tree r (refs r has) None leads) typed
+      unresolved r has (links_over (rules_of setting) trees others address tree r (refs r has) None leads) typed
   told_over trees others refs names e (duplicate n t named double typed) = duplicate n t named double typed
   told_over trees others refs names e (also_exported n t {name = name} {other = elsewhere} has named least typed) =
       also_exported n t has named (least_over trees others name (names n t name has named) t address elsewhere least) typed
@@ -65,7 +66,7 @@ module _ (g : Grammar) (address : List ℕ) (tree : Parts) where
 
   pub diagnostics_over : (trees others : Trees) → ((r : Reference) → Contains tree.refs r → AreAlikeBy trees others r.name) →
       ((n type : ℕ) (name : List ℕ) → Contains (exports tree) n → IsNamedNode tree n name type → AreAlikeBy trees others name) → (diagnostics : List Diagnostic) →
-      AreDiagnosticsOf g trees address tree diagnostics → AreDiagnosticsOf g others address tree diagnostics
+      AreDiagnosticsOf setting trees address tree diagnostics → AreDiagnosticsOf setting others address tree diagnostics
   diagnostics_over trees others refs names diagnostics are = record {
     exact = λ e. (
       (λ has. told_over trees others refs names e ((are.exact e).0 has)),

@@ -10,7 +10,7 @@ use Rattle.std.proofs.lemmas.Map.Text.{is_eq-slice_cmp}
 use Rattle.std.proofs.lemmas.Option.{same_Some, none-some}
 use Rattle.lw_base.specs.declared.numbers.DocId.{DocId}
 use Rattle.lw_docs.specs.Documents.{AreNumbered, ByAddress, Numbered}
-use Rattle.lw_grammar.specs.declared.grammar.Grammar.{Grammar}
+use Rattle.lw_link_rules.specs.Setting.{Setting}
 use Rattle.lw_index.specs.declared.parts.Answer.{Answer}
 use Rattle.lw_base.proofs.Rows.{zip_push}
 use Rattle.lw_machine.specs.Documents.{present_texts}
@@ -22,7 +22,7 @@ use Rattle.lw_query.specs.Viewed.{IsLinkAnswer}
 use Rattle.lw_query.specs.declared.view.View.{View}
 use Rattle.lw_index.specs.Led.{Led, answers_in}
 use Rattle.lw_reading.specs.Within.{StandsInText}
-use Rattle.lw_link_rules.specs.Links.{AreTreesOfTexts, IsNumberBelow, IsTreeOfText}
+use Rattle.lw_link_rules.specs.Links.{AreTreesOfTexts, IsTreeOfText, rules_of}
 use Rattle.lw_scoping.specs.Links.{Trees}
 use Rattle.lw_tree.specs.Parts.{Parts}
 use Rattle.lw_build.specs.Linked.{AreLinked, StandsNumbered}
@@ -155,12 +155,12 @@ same_addresses kept readings led (e ∷ es) (v ∷ views) rows =
 
 -- ---- the documents of a workspace that is built
 
-module _ (g : Grammar) (texts : List (List ℕ)) (kept : ByAddress) (are : AreNumbered kept) (readings : Readings) (read : AreDocumentsRead g texts kept readings) where
-  within_of : (text : List ℕ) (reading : Reading) → IsReadingOfText g texts text reading → IfSome (tree_of reading) (StandsInText text)
+module _ (setting : Setting) (texts : List (List ℕ)) (kept : ByAddress) (are : AreNumbered kept) (readings : Readings) (read : AreDocumentsRead setting.grammar texts kept readings) where
+  within_of : (text : List ℕ) (reading : Reading) → IsReadingOfText setting.grammar texts text reading → IfSome (tree_of reading) (StandsInText text)
   within_of text (Whole tree locals) is = is.1
   within_of text (Broken issue) is = tt
 
-  few_of : (text : List ℕ) (reading : Reading) → IsReadingOfText g texts text reading → IfSome (tree_of reading) HasFewReferences
+  few_of : (text : List ℕ) (reading : Reading) → IsReadingOfText setting.grammar texts text reading → IfSome (tree_of reading) HasFewReferences
   few_of text (Whole tree locals) is = is.3
   few_of text (Broken issue) is = tt
 
@@ -171,8 +171,8 @@ module _ (g : Grammar) (texts : List (List ℕ)) (kept : ByAddress) (are : AreNu
       by : (o : Option Reading) → reading_at readings held.number.0 ≡ o → IfSome (option_and_then tree_of o) (StandsInText held.doc.text)
       by None is = tt
       by (Some reading) is =
-          let (r, same) = own_reading g texts kept are readings read held.number held.doc (ap (get kept) (are.addresses address held at) ∙ at) reading is in
-          within_of held.doc.text reading (subst (λ (h : Numbered). IsReadingOfText g texts h.doc.text reading) same r.reads)
+          let (r, same) = own_reading setting.grammar texts kept are readings read held.number held.doc (ap (get kept) (are.addresses address held at) ∙ at) reading is in
+          within_of held.doc.text reading (subst (λ (h : Numbered). IsReadingOfText setting.grammar texts h.doc.text reading) same r.reads)
 
   -- what is lent
   pub readings_seen : AreAllRead kept readings → AreReadingsSeen kept readings
@@ -183,12 +183,12 @@ module _ (g : Grammar) (texts : List (List ℕ)) (kept : ByAddress) (are : AreNu
           let r = read.each n reading is in
           record { held = r.held; number = r.number; here = r.here; stands = within_of r.held.doc.text reading r.reads; few = few_of r.held.doc.text reading r.reads }
 
-  pub present_trees : (b : Bool) → AreAllRead kept readings → AreTreesOfTexts g (present_texts (documents_of b kept)) (trees_of kept readings)
+  pub present_trees : (b : Bool) → AreAllRead kept readings → AreTreesOfTexts setting.grammar (present_texts (documents_of b kept)) (trees_of kept readings)
   present_trees b all address =
-      subst (λ (o : Option (List ℕ)). IsTreeOfText g o (trees_of kept readings address)) (sym (present_here b kept address))
-      (are_trees g texts kept are readings read all address)
+      subst (λ (o : Option (List ℕ)). IsTreeOfText setting.grammar o (trees_of kept readings address)) (sym (present_here b kept address))
+      (are_trees setting.grammar texts kept are readings read all address)
 
-  module _ (led : Led) (linked : AreLinked g kept readings led) (views : List View) (rows : AllZip (IsViewOf kept readings led) (numbered_places kept) views) where
+  module _ (led : Led) (linked : AreLinked setting kept readings led) (views : List View) (rows : AllZip (IsViewOf kept readings led) (numbered_places kept) views) where
     abbrev Place : Type 0
     Place = List ℕ × DocId
 
@@ -250,15 +250,15 @@ module _ (g : Grammar) (texts : List (List ℕ)) (kept : ByAddress) (are : AreNu
         let (v, has, row) = view_of address held at in
         (v, has, ap (λ (d : DocId). d.0) row.number ∙ number, row.address)
 
-    one_built : (v : View) → Contains views v → IsBuiltView g views v
+    one_built : (v : View) → Contains views v → IsBuiltView setting views v
     one_built v has = record {
-      reads = subst₂ (IsTreeOfText g) (sym (text_of v has)) (sym (tree_of_view v has)) (are_trees g texts kept are readings read linked.read v.uri.now);
+      reads = subst₂ (IsTreeOfText setting.grammar) (sym (text_of v has)) (sym (tree_of_view v has)) (are_trees setting.grammar texts kept are readings read linked.read v.uri.now);
       stands = stands;
       linked = λ tree is.
           let here : tree_numbered readings v.doc.0 ≡ Some tree = tree_stands kept readings v.doc.0 v.uri.now (stands_of v has) ∙ sym (tree_of_view v has) ∙ is in
-          subst₂ (λ (trees : Trees) (answers : List Answer). AllZip (IsLinkAnswer (IsNumberBelow g) (StandsAmong views) trees v.uri.now tree) tree.refs answers)
+          subst₂ (λ (trees : Trees) (answers : List Answer). AllZip (IsLinkAnswer (rules_of setting) (StandsAmong views) trees v.uri.now tree) tree.refs answers)
           (λ i address. sym (same_trees address) i) (sym (answers_of v has))
-          (all_restood (IsNumberBelow g) (StandsNumbered kept) (StandsAmong views) stands_among (trees_of kept readings) v.uri.now tree tree.refs
+          (all_restood (rules_of setting) (StandsNumbered kept) (StandsAmong views) stands_among (trees_of kept readings) v.uri.now tree tree.refs
           (answers_in led v.doc.0) (linked.views.linked v.doc.0 v.uri.now tree (stands_of v has) here));
       treeless = λ none.
           answers_of v has
@@ -285,8 +285,8 @@ module _ (g : Grammar) (texts : List (List ℕ)) (kept : ByAddress) (are : AreNu
         lemma Equal is eq = absurd (let e = is in cc)
         lemma Greater is eq = absurd (let e = is in cc)
 
-    pub built_views : AreBuiltViews g views
-    built_views = record { ascending = ascending; apart = apart_all; built = all_so (IsBuiltView g views) views one_built }
+    pub built_views : AreBuiltViews setting views
+    built_views = record { ascending = ascending; apart = apart_all; built = all_so (IsBuiltView setting views) views one_built }
       where
         ascending : AllPairs (λ v w. order v.uri.now w.uri.now ≡ Less) views
         ascending = rising (IsViewOf kept readings led) (λ p v is. is.address) (entries kept) views (entries_sorted kept) rows

@@ -26,5 +26,5 @@ known_here held = record { text = held.doc.text; version = held.doc.version; is_
 
 pub record Agrees (v : WorkspaceView) (m : Documents) : Type 0 where
   pub same : (address : List ℕ) → option_map known (get m address) ≡ option_map known_here (get v.kept address)
-  pub valid : IsValid v.grammar m
-  pub readable : (address : List ℕ) (d : Document) → get m address ≡ Some d → IfSome d.shown (IsReadable v.grammar)
+  pub valid : IsValid v.setting m
+  pub readable : (address : List ℕ) (d : Document) → get m address ≡ Some d → IfSome d.shown (IsReadable v.setting.grammar)

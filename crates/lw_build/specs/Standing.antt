@@ -8,13 +8,13 @@ use Rattle.std.specs.List.{AllZip, list_any}
 use Rattle.std.specs.Ordering.{nat_cmp}
 use Rattle.std.specs.Str.{bytes_eq}
 use Rattle.lw_docs.specs.Documents.{ByAddress, IsHeld, Numbered}
-use Rattle.lw_grammar.specs.declared.grammar.Grammar.{Grammar}
+use Rattle.lw_link_rules.specs.Setting.{Setting}
 use Rattle.lw_index.specs.Indexed.{exports_in}
 use Rattle.lw_index.specs.declared.parts.Export.{Export}
 use Rattle.lw_index.specs.Led.{Led, answers_in}
 use Rattle.lw_link_rules.specs.Diagnostics.{IsDiagnosticShown}
 use Rattle.lw_link_rules.specs.Faults.{IsFaultShown}
-use Rattle.lw_link_rules.specs.Links.{IsNumberBelow}
+use Rattle.lw_link_rules.specs.Links.{rules_of}
 use Rattle.lw_link_rules.specs.TreeDiagnostics.{AreDiagnosticsOf, Diagnostic}
 use Rattle.lw_scoping.specs.Links.{Trees}
 use Rattle.lw_scoping.specs.Symbols.{IsNamedNode, exports}
@@ -71,16 +71,16 @@ AreEntered kept readings standing =
     Contains (exports_in readings.index held.number.0) e → IsChangedName standing e.name
 
 -- the links of the document of a number are kept
-abbrev pub IsLinkedHere : Grammar → ByAddress → Readings → Led → ℕ → Type 0
-IsLinkedHere g kept readings led n = (address : List ℕ) → StandsNumbered kept n address → AreLinksKept g kept readings led address n
+abbrev pub IsLinkedHere : Setting → ByAddress → Readings → Led → ℕ → Type 0
+IsLinkedHere setting kept readings led n = (address : List ℕ) → StandsNumbered kept n address → AreLinksKept setting kept readings led address n
 
 -- the list of a document at an address, over some trees, by what its text was read as
-abbrev pub IsToldOver : Grammar → Trees → List ℕ → List ℕ → Reading → List Shown → Type 0
-IsToldOver g trees address text (Whole tree locals) list =
-    (diagnostics : List Diagnostic) × AreDiagnosticsOf g trees address tree diagnostics × AllZip (IsDiagnosticShown text) diagnostics list
-IsToldOver g trees address text (Broken issue) list = (shown : Shown) × IsFaultShown g text issue shown × (list ≡ shown ∷ [])
+abbrev pub IsToldOver : Setting → Trees → List ℕ → List ℕ → Reading → List Shown → Type 0
+IsToldOver setting trees address text (Whole tree locals) list =
+    (diagnostics : List Diagnostic) × AreDiagnosticsOf setting trees address tree diagnostics × AllZip (IsDiagnosticShown text) diagnostics list
+IsToldOver setting trees address text (Broken issue) list = (shown : Shown) × IsFaultShown setting.grammar text issue shown × (list ≡ shown ∷ [])
 
-module _ (g : Grammar) (kept : ByAddress) (readings : Readings) (led : Led) (standing : Standing) where
+module _ (setting : Setting) (kept : ByAddress) (readings : Readings) (led : Led) (standing : Standing) where
   -- a document stands at the address that is as it was built
   abbrev pub IsUntouchedAt : List ℕ → Type 0
   IsUntouchedAt address = (held : Numbered) × (get kept address ≡ Some held) × IsUntouched standing held.number.0
@@ -99,8 +99,8 @@ module _ (g : Grammar) (kept : ByAddress) (readings : Readings) (led : Led) (sta
     pub is_tree : trees held.doc.uri ≡ tree_of reading
     pub list : List Shown
     pub published : held.doc.published ≡ Some list
-    pub told : IsToldOver g trees held.doc.uri held.doc.text reading list
-    pub links : AreLinkAnswers (IsNumberBelow g) StoodNumbered trees held.doc.uri (tree_of reading) (answers_in led n)
+    pub told : IsToldOver setting trees held.doc.uri held.doc.text reading list
+    pub links : AreLinkAnswers (rules_of setting) StoodNumbered trees held.doc.uri (tree_of reading) (answers_in led n)
 
   -- the trees of the build before: each document that was not touched is as it was built over them, and of all others the names of exports are known
   pub record StandsBuilt : Type 0 where

@@ -5,7 +5,7 @@ use Rattle.std.specs.FinMap.{entries, get}
 use Rattle.lw_base.specs.declared.numbers.DocId.{DocId}
 use Rattle.lw_docs.specs.Documents.{ByAddress, Numbered, numbered}
 use Rattle.lw_docs.specs.declared.doc.Doc.{Doc}
-use Rattle.lw_grammar.specs.declared.grammar.Grammar.{Grammar}
+use Rattle.lw_link_rules.specs.Setting.{Setting}
 use Rattle.lw_index.specs.Indexed.{Indexed}
 use Rattle.lw_index.specs.declared.parts.Answer.{Answer}
 use Rattle.lw_index.specs.declared.parts.Document.{Document}
@@ -13,7 +13,7 @@ use Rattle.lw_machine.specs.Building.{publication}
 use Rattle.lw_machine.specs.declared.published.Published.{Published}
 use Rattle.lw_scoping.specs.Links.{Trees}
 use Rattle.lw_link_rules.specs.Diagnostics.{AreDiagnostics}
-use Rattle.lw_link_rules.specs.Links.{IsNumberBelow, Texts}
+use Rattle.lw_link_rules.specs.Links.{Texts, rules_of}
 use Rattle.lw_tree.specs.Parts.{Parts}
 use Rattle.lw_text.specs.declared.shown.Shown.{Shown}
 use Rattle.lw_build.specs.Linked.{AreLinkAnswers, IsIndexedAt}
@@ -29,9 +29,9 @@ pub record IsDocumentAs (trees : Trees) (index : Indexed) (n : ℕ) (address : L
   pub is_tree : trees address ≡ tree_of reading
 
 -- what the document at an address comes to, which has this tree or none: its list, and the links of its references
-abbrev pub IsCheckedAs : Grammar → Texts → Trees → Indexed → List ℕ → Option Parts → List Shown → List Answer → Type 0
-IsCheckedAs g texts trees index address tree list answers =
-    AreDiagnostics g texts address list × AreLinkAnswers (IsNumberBelow g) (IsIndexedAt index) trees address tree answers
+abbrev pub IsCheckedAs : Setting → Texts → Trees → Indexed → List ℕ → Option Parts → List Shown → List Answer → Type 0
+IsCheckedAs setting texts trees index address tree list answers =
+    AreDiagnostics setting texts address list × AreLinkAnswers (rules_of setting) (IsIndexedAt index) trees address tree answers
 
 -- the addresses in their order, each with the number of its document
 abbrev pub numbered_places : ByAddress → List (List ℕ × DocId)
@@ -44,14 +44,14 @@ pub data AddsList (d : DocId) (doc : Doc) (list : List Shown) (before after : Ne
       after.lists ≡ before.lists ++ publication doc.uri doc.version list ∷ [] → AddsList d doc list before after
 
 -- Of the documents at some places the lists that are news, by their numbers, and as they are published.
-pub data AreListsTold (g : Grammar) (kept : ByAddress) : List (List ℕ × DocId) → List (DocId × List Shown) → List Published → Type 0 where
-  none : AreListsTold g kept [] [] []
+pub data AreListsTold (setting : Setting) (kept : ByAddress) : List (List ℕ × DocId) → List (DocId × List Shown) → List Published → Type 0 where
+  none : AreListsTold setting kept [] [] []
   same : {address : List ℕ} {d : DocId} {doc : Doc} {list : List Shown} {places : List (List ℕ × DocId)} {own : List (DocId × List Shown)} {lists : List Published} →
-      get kept address ≡ Some (numbered d doc) → AreDiagnostics g (present_texts_of kept) address list → doc.published ≡ Some list → AreListsTold g kept places own lists →
-      AreListsTold g kept ((address, d) ∷ places) own lists
+      get kept address ≡ Some (numbered d doc) → AreDiagnostics setting (present_texts_of kept) address list → doc.published ≡ Some list → AreListsTold setting kept places own lists →
+      AreListsTold setting kept ((address, d) ∷ places) own lists
   other : {address : List ℕ} {d : DocId} {doc : Doc} {list : List Shown} {places : List (List ℕ × DocId)} {own : List (DocId × List Shown)} {lists : List Published} →
-      get kept address ≡ Some (numbered d doc) → AreDiagnostics g (present_texts_of kept) address list → doc.published ≢ Some list → AreListsTold g kept places own lists →
-      AreListsTold g kept ((address, d) ∷ places) ((d, list) ∷ own) (publication address doc.version list ∷ lists)
+      get kept address ≡ Some (numbered d doc) → AreDiagnostics setting (present_texts_of kept) address list → doc.published ≢ Some list → AreListsTold setting kept places own lists →
+      AreListsTold setting kept ((address, d) ∷ places) ((d, list) ∷ own) (publication address doc.version list ∷ lists)
 
 -- a document whose list was published
 abbrev pub with_list : Numbered → List Shown → Numbered

@@ -3,14 +3,14 @@
 -- Held against Langium's document lifecycle, "Document states".
 use Rattle.std.specs.Prelude.{Bool, Some, None, map, if◌then◌else◌}
 use Rattle.std.specs.FinMap.{entries, from_sorted}
-use Rattle.lw_grammar.specs.declared.grammar.Grammar.{Grammar}
+use Rattle.lw_link_rules.specs.Setting.{Setting}
 use Rattle.lw_docs.specs.Documents.{ByAddress}
 use Rattle.lw_docs.specs.declared.doc.Doc.{Doc}
 use Rattle.lw_machine.specs.Documents.{Document, Documents}
 use Rattle.lw_machine.specs.declared.state.State.TheVariants.{Changed, Validated}
 
 pub record WorkspaceView : Type 0 where
-  pub grammar : Grammar
+  pub setting : Setting
   pub kept : ByAddress
   pub is_built : Bool
 

@@ -15,6 +15,7 @@ ghost use Rattle.lw_build.specs.Linked.{AreLinked, AreLinksKept, OnlyReadLead};
 ghost use Rattle.lw_build.specs.Readings.{AreAllRead, AreDocumentsRead, IsReadingOfText, present_texts_of, tree_of};
 ghost use Rattle.lw_build.specs.Standing.{AreEntered, IsLinkedHere, StandsBuilt};
 ghost use Rattle.lw_build.specs.Telling.{AddsList, AreListsTold, AreListsTaken, IsCheckedAs, IsDocumentAs, numbered_places};
+ghost use Rattle.lw_lang.specs.Language.{setting_of};
 
 use crate::readings::{Reading, Readings};
 use crate::standing::Standing;
@@ -96,7 +97,7 @@ fn check_tree<L: Ledger>(
     ensures few { IfOk result (λ checked. length checked.answers.items < 2 ^ 32) }
     ensures checked { (texts : Texts) (trees : Trees) (address : List ℕ) → AreTreesOfTexts language.now.grammar texts trees → IsIndexOf trees index.now →
         texts address ≡ Some text.now → IsDocumentOf trees index.now d.0 address tree.now →
-        IfOk result (λ checked. IsCheckedAs language.now.grammar texts trees index.now address (Some tree.now) checked.list checked.answers.items) }
+        IfOk result (λ checked. IsCheckedAs (setting_of language.now) texts trees index.now address (Some tree.now) checked.list checked.answers.items) }
 {
     let types = language.types();
     let answers = answers(alloc, tree, locals, d, index, types, steps)?;
@@ -127,7 +128,7 @@ fn check_reading<L: Ledger>(
     ensures few { IfOk result (λ checked. length checked.answers.items < 2 ^ 32) }
     ensures checked { (texts : Texts) (trees : Trees) (address : List ℕ) → AreTreesOfTexts language.now.grammar texts trees → IsIndexOf trees index.now →
         texts address ≡ Some text.now → IsDocumentAs trees index.now d.0 address reading.now →
-        IfOk result (λ checked. IsCheckedAs language.now.grammar texts trees index.now address (tree_of reading.now) checked.list checked.answers.items) }
+        IfOk result (λ checked. IsCheckedAs (setting_of language.now) texts trees index.now address (tree_of reading.now) checked.list checked.answers.items) }
 {
     match reading {
         Reading::Whole(tree, locals) => {
@@ -185,13 +186,13 @@ impl News {
         requires all { AreAllRead docs.now readings.now }
         requires unread { OnlyReadLead readings.now refs.old }
         requires entered { AreEntered docs.now readings.now standing.now }
-        requires stands { (led : Led) × StandsBuilt language.now.grammar docs.now readings.now led standing.now ×
-            ((answers_in refs.old d.0 ≡ answers_in led d.0) ⊎ IsLinkedHere language.now.grammar docs.now readings.now refs.old d.0) }
+        requires stands { (led : Led) × StandsBuilt (setting_of language.now) docs.now readings.now led standing.now ×
+            ((answers_in refs.old d.0 ≡ answers_in led d.0) ⊎ IsLinkedHere (setting_of language.now) docs.now readings.now refs.old d.0) }
         ensures unread { OnlyReadLead readings.now refs.new }
         ensures others { (n : ℕ) → n ≢ d.0 → answers_in refs.new n ≡ answers_in refs.old n }
-        ensures linked { OnOk result ((doc : OneDoc) × IsAt docs.now d doc × AreLinksKept language.now.grammar docs.now readings.now refs.new doc.uri d.0) }
+        ensures linked { OnOk result ((doc : OneDoc) × IsAt docs.now d doc × AreLinksKept (setting_of language.now) docs.now readings.now refs.new doc.uri d.0) }
         ensures told { OnOk result ((list : List Shown) × (doc : OneDoc) × IsAt docs.now d doc ×
-            AreDiagnostics language.now.grammar (present_texts_of docs.now) doc.uri list × AddsList d doc list self.old self.new) }
+            AreDiagnostics (setting_of language.now) (present_texts_of docs.now) doc.uri list × AddsList d doc list self.old self.new) }
     {
         docs.numbered();
         let doc = docs.doc(d);
@@ -233,10 +234,10 @@ pub(crate) fn news_of<L: Ledger>(
     requires all { AreAllRead docs.now readings.now }
     requires unread { OnlyReadLead readings.now refs.old }
     requires entered { AreEntered docs.now readings.now standing.now }
-    requires stands { StandsBuilt language.now.grammar docs.now readings.now refs.old standing.now }
+    requires stands { StandsBuilt (setting_of language.now) docs.now readings.now refs.old standing.now }
     ensures unread { OnlyReadLead readings.now refs.new }
-    ensures linked { OnOk result (AreLinked language.now.grammar docs.now readings.now refs.new) }
-    ensures told { IfOk result (λ news. AreListsTold language.now.grammar docs.now (numbered_places docs.now) news.own.items news.lists) }
+    ensures linked { OnOk result (AreLinked (setting_of language.now) docs.now readings.now refs.new) }
+    ensures told { IfOk result (λ news. AreListsTold (setting_of language.now) docs.now (numbered_places docs.now) news.own.items news.lists) }
 {
     docs.numbered();
     let mut news = News {

@@ -16,7 +16,7 @@ ghost use Rattle.lw_machine.specs.Settling.{IsSettled};
 ghost use Rattle.lw_query.specs.Built.{AreBuiltViews, texts_seen};
 ghost use Rattle.lw_query.specs.Viewed.{AreViewsOf};
 ghost use Rattle.lw_reading.specs.Laws.{IsReadOneWay};
-ghost use Rattle.lw_link_rules.specs.Links.{AreTreesOfTexts, IsNumberBelow};
+ghost use Rattle.lw_link_rules.specs.Links.{AreTreesOfTexts, rules_of};
 ghost use Rattle.lw_scoping.specs.Links.{Trees};
 ghost use Rattle.lw_text.specs.Changes.{Changes};
 ghost use Rattle.lw_text.specs.declared.units.Encoding.TheVariants.{Utf16};
@@ -147,7 +147,7 @@ impl Workspace {
     /// A workspace of no documents. It takes no memory.
     pub fn new(alloc: Global, language: Language) -> Workspace
         requires { IsReadOneWay language.grammar }
-        ensures grammar { result.grammar ≡ language.grammar }
+        ensures setting { result.setting ≡ language.grammar }
         ensures empty { result.kept ≡ all.empty }
         ensures built { result.is_built ≡ true }
     {
@@ -167,7 +167,7 @@ impl Workspace {
     /// That a workspace may stand for the documents that it is seen as. It does nothing.
     pub fn agrees(&self)
         ensures agrees { Agrees self.now (documents self.now) }
-        ensures one_way { IsReadOneWay self.now.grammar }
+        ensures one_way { IsReadOneWay self.now.setting.grammar }
         ensures few { all.len self.now.kept ≤ MOST_DOCUMENTS }
     {
         self.docs.len();
@@ -178,7 +178,7 @@ impl Workspace {
         requires { IsHeld self.old.kept d }
         ensures kept { Turns self.old.kept self.new.kept d (λ x. record x { text = text; version = version; is_open = is_open }) }
         ensures begun { self.new.is_built ≡ false }
-        ensures grammar { self.new.grammar ≡ self.old.grammar }
+        ensures setting { self.new.setting ≡ self.old.setting }
     {
         self.standing
             .touch(self.alloc, d, self.readings.index.of(d));
@@ -200,7 +200,7 @@ impl Workspace {
         requires { get self.old.kept uri.now ≡ None }
         ensures kept { OnOk result ((d : DocId) × (self.new.kept ≡ all.insert self.old.kept uri.now (numbered d (changed uri.now text version is_open)))) }
         ensures begun { OnOk result (self.new.is_built ≡ false) }
-        ensures grammar { self.new.grammar ≡ self.old.grammar }
+        ensures setting { self.new.setting ≡ self.old.setting }
         ensures fault { IfErr result (IsAddRefusal self.old) }
         ensures room { OnOk result (all.len self.old.kept ≢ MOST_DOCUMENTS) }
         ensures refused { OnErr result (self.new ≡ self.old) }
@@ -234,7 +234,7 @@ impl Workspace {
         ensures fits { OnOk result ((length text ≤ LONGEST_TEXT) × (¬ HasNoRoom self.old uri.now)) }
         ensures fault { IfErr result (IsPutFault self.old uri.now text) }
         ensures refused { OnErr result (self.new ≡ self.old) }
-        ensures grammar { self.new.grammar ≡ self.old.grammar }
+        ensures setting { self.new.setting ≡ self.old.setting }
     {
         let text = match TextDoc::new(self.alloc, text) {
             Ok(text) => text,
@@ -257,7 +257,7 @@ impl Workspace {
             Changes Utf16 d.text changes.now (Ok text) × Agrees self.new (all.insert m uri.now (edited d text version))) }
         ensures fault { IfErr result (IsEditFault self.old uri.now changes.now) }
         ensures refused { OnErr result (self.new ≡ self.old) }
-        ensures grammar { self.new.grammar ≡ self.old.grammar }
+        ensures setting { self.new.setting ≡ self.old.setting }
     {
         let Some(d) = self.docs.find(uri) else {
             return Err(WorkFault::NoDocument);
@@ -280,7 +280,7 @@ impl Workspace {
             self.new.kept ≡ all.insert self.old.kept uri.now (numbered held.number (record held.doc { version = None; is_open = false })) }
         ensures absent { get self.old.kept uri.now ≡ None → self.new ≡ self.old }
         ensures built { self.new.is_built ≡ self.old.is_built }
-        ensures grammar { self.new.grammar ≡ self.old.grammar }
+        ensures setting { self.new.setting ≡ self.old.setting }
     {
         let Some(d) = self.docs.find(uri) else {
             return;
@@ -293,11 +293,11 @@ impl Workspace {
     /// [`WorkFault::NoDocument`] and want of memory.
     pub fn remove(&mut self, uri: &Name) -> Result<Option<Published>, WorkFault>
         ensures agrees { OnOk result ((m : Documents) → Agrees self.old m →
-            (n : Documents) × IsSettled self.old.grammar (shown_texts m) uri.now (all.remove m uri.now) n × Agrees self.new n) }
+            (n : Documents) × IsSettled self.old.setting (shown_texts m) uri.now (all.remove m uri.now) n × Agrees self.new n) }
         ensures told { IfOk result (λ told. (held : Numbered) × (get self.old.kept uri.now ≡ Some held) × (farewell uri.now held.doc.published ≡ option_to_list told)) }
         ensures fault { IfErr result (IsRemovalFault self.old uri.now) }
         ensures refused { OnErr result (self.new ≡ self.old) }
-        ensures grammar { self.new.grammar ≡ self.old.grammar }
+        ensures setting { self.new.setting ≡ self.old.setting }
     {
         let Some(gone) = self.docs.find(uri) else {
             return Err(WorkFault::NoDocument);
@@ -323,10 +323,10 @@ impl Workspace {
     /// that looks for a name, or exports one, by which a document that has changed exports something now or did at the last build. A step is
     /// counted for each look-up in the index. Of all others each reference and each export is looked at once, for its name.
     pub fn advance<L: Ledger>(&mut self, steps: &mut Steps<L>) -> Result<Items<Published>, NoMemory>
-        ensures builds { IfOk result (λ lists. (m : Documents) → Agrees self.old m → BuildsToEnd self.old.grammar m (documents self.new) lists) }
+        ensures builds { IfOk result (λ lists. (m : Documents) → Agrees self.old m → BuildsToEnd self.old.setting m (documents self.new) lists) }
         ensures built { OnOk result (self.new.is_built ≡ true) }
         ensures refused { OnErr result (self.new ≡ self.old) }
-        ensures grammar { self.new.grammar ≡ self.old.grammar }
+        ensures setting { self.new.setting ≡ self.old.setting }
     {
         let _ = self.language.types();
         if self.is_built {
@@ -395,7 +395,7 @@ impl Workspace {
 
     /// Its language.
     pub fn language(&self) -> &Language
-        ensures { result.now.grammar ≡ self.now.grammar }
+        ensures { result.now.setting ≡ self.now.setting }
     {
         &self.language
     }
@@ -403,7 +403,7 @@ impl Workspace {
     /// What its documents export, by their numbers: of those that were read.
     pub fn index(&self) -> &Index
         ensures numbers { (address : List ℕ) (held : Numbered) → get self.now.kept address ≡ Some held → IsNumberAt result.now held.number.0 address }
-        ensures trees { self.now.is_built ≡ true → (trees : Trees) × AreTreesOfTexts self.now.grammar (present_texts (documents self.now)) trees × IsIndexOf trees result.now }
+        ensures trees { self.now.is_built ≡ true → (trees : Trees) × AreTreesOfTexts self.now.setting.grammar (present_texts (documents self.now)) trees × IsIndexOf trees result.now }
     {
         let _ = self.is_built;
         &self.readings.index
@@ -413,8 +413,8 @@ impl Workspace {
     pub fn seen(&self) -> Seen<'_>
         requires built { self.now.is_built ≡ true }
         ensures kept { result.kept ≡ self.now.kept }
-        ensures views { (trees : Trees) × AreTreesOfTexts self.now.grammar (present_texts (documents self.now)) trees ×
-            AreViewsOf (IsNumberBelow self.now.grammar) (⟦<Seen<'static> as Views>⟧.tree_at result) (⟦<Seen<'static> as Views>⟧.answers_at result) (⟦<Seen<'static> as Views>⟧.Stands result) trees }
+        ensures views { (trees : Trees) × AreTreesOfTexts self.now.setting.grammar (present_texts (documents self.now)) trees ×
+            AreViewsOf (rules_of self.now.setting) (⟦<Seen<'static> as Views>⟧.tree_at result) (⟦<Seen<'static> as Views>⟧.answers_at result) (⟦<Seen<'static> as Views>⟧.Stands result) trees }
     {
         let _ = self.is_built;
         Seen {
@@ -428,7 +428,7 @@ impl Workspace {
     /// each.
     pub fn views(&self, alloc: Global) -> Result<Vec<View<'_>>, NoMemory>
         requires built { self.now.is_built ≡ true }
-        ensures built { IfOk result (λ views. AreBuiltViews self.now.grammar views.items) }
+        ensures built { IfOk result (λ views. AreBuiltViews self.now.setting views.items) }
         ensures texts { IfOk result (λ views. (address : List ℕ) → texts_seen views.items address ≡ present_texts (documents self.now) address) }
         ensures addresses { IfOk result (λ views. map (λ v. v.uri.now) views.items ≡ all.keys self.now.kept) }
     {

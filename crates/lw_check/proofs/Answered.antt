@@ -16,6 +16,7 @@ use Rattle.lw_tree.specs.declared.node.Reference.{Reference}
 use Rattle.lw_tree.specs.Parts.{Parts}
 use Rattle.lw_link_rules.specs.TreeDiagnostics.{Diagnostic}
 use Rattle.lw_check.specs.Telling.{TellsAnswer, TellsAnswerAt}
+use Rattle.lw_scoping.specs.Rules.{Rules}
 
 none_at : {X : Type 0} (i : ℕ) {x : X} → slice_get [] i ≡ Some x → ⊥
 none_at zero is = cc
@@ -38,18 +39,18 @@ missing_alone address (Found target) is = cc
 missing_alone address Missing is = refl
 
 -- `read` says where an answer leads
-module _ (below : ℕ → ℕ → Type 0) (trees : Trees) (address : List ℕ) (tree : Parts) (read : Answer → Link) (answers : List Answer)
-    (links : AllZip (LinksTo below trees address tree) tree.refs (map read answers)) (i : ℕ) (r : Reference) (at : slice_get tree.refs i ≡ Some r) where
-  pub leads_nowhere : read Missing ≡ None → slice_get answers i ≡ Some Missing → LinksTo below trees address tree r None
+module _ (rules : Rules) (trees : Trees) (address : List ℕ) (tree : Parts) (read : Answer → Link) (answers : List Answer)
+    (links : AllZip (LinksTo rules trees address tree) tree.refs (map read answers)) (i : ℕ) (r : Reference) (at : slice_get tree.refs i ≡ Some r) where
+  pub leads_nowhere : read Missing ≡ None → slice_get answers i ≡ Some Missing → LinksTo rules trees address tree r None
   leads_nowhere none is =
-      let beside = zipped (LinksTo below trees address tree) read tree.refs answers links i r at in
-      subst (LinksTo below trees address tree r) none
-      (subst (λ a. LinksTo below trees address tree r (read a)) (same_Some beside.0 Missing (sym beside.1 ∙ is)) beside.2)
+      let beside = zipped (LinksTo rules trees address tree) read tree.refs answers links i r at in
+      subst (LinksTo rules trees address tree r) none
+      (subst (λ a. LinksTo rules trees address tree r (read a)) (same_Some beside.0 Missing (sym beside.1 ∙ is)) beside.2)
 
-  pub is_missing : ((answer : Answer) → read answer ≡ None → answer ≡ Missing) → LinksTo below trees address tree r None → slice_get answers i ≡ Some Missing
+  pub is_missing : ((answer : Answer) → read answer ≡ None → answer ≡ Missing) → LinksTo rules trees address tree r None → slice_get answers i ≡ Some Missing
   is_missing only leads =
-      let beside = zipped (LinksTo below trees address tree) read tree.refs answers links i r at in
-      beside.1 ∙ ap Some (only beside.0 (one_target below trees address tree r (read beside.0) None beside.2 leads))
+      let beside = zipped (LinksTo rules trees address tree) read tree.refs answers links i r at in
+      beside.1 ∙ ap Some (only beside.0 (one_target rules trees address tree r (read beside.0) None beside.2 leads))
 
 -- by the answer at its place
 pub told_at : (g : Grammar) (answers : List Answer) (i : ℕ) (answer : Answer) (r : Reference) {a b : List Diagnostic} → slice_get answers i ≡ Some answer →

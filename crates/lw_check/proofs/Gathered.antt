@@ -5,7 +5,7 @@ use Rattle.std.specs.List.{AllZip}
 use Rattle.std.specs.Prelude.{if◌then◌else◌}
 use Rattle.std.proofs.lemmas.Bool.Decides.{nat_tests}
 use Rattle.std.proofs.lemmas.Option.{none-some, slice_get-get_or, slice_get_within}
-use Rattle.lw_grammar.specs.declared.grammar.Grammar.{Grammar}
+use Rattle.lw_link_rules.specs.Setting.{Setting}
 use Rattle.lw_index.specs.declared.parts.Answer.{Answer}
 use Rattle.lw_index.specs.declared.parts.Answer.TheVariants.{Missing}
 use Rattle.lw_index.specs.Indexed.{Indexed}
@@ -17,7 +17,7 @@ use Rattle.lw_scoping.specs.Links.{Link, LinksTo, Trees}
 use Rattle.lw_scoping.proofs.Places.{among}
 use Rattle.lw_link_rules.proofs.AloneAt.{alone_elsewhere}
 use Rattle.lw_link_rules.specs.Diagnostics.{alone_at}
-use Rattle.lw_link_rules.specs.Links.{IsNumberBelow}
+use Rattle.lw_link_rules.specs.Links.{rules_of}
 use Rattle.lw_link_rules.specs.TreeDiagnostics.{Diagnostic, AreDiagnosticsOf, IsDiagnosticOf, unresolved, duplicate, also_exported, number}
 use Rattle.lw_tree.specs.Keyed.{Entries, values_of}
 use Rattle.lw_tree.specs.Parts.{Parts, values_at}
@@ -83,14 +83,14 @@ among_all n p (x ∷ xs) v has = by ((x.0.0 == n) && (x.1.0 == p)) has (among_al
 -- ---- what they tell
 
 -- `read` says where an answer leads; the least rivals of the index are the least other documents
-module _ (g : Grammar) (trees : Trees) (address : List ℕ) (tree : Parts) (answers : List Answer) (doc : ℕ) (index : Indexed) (read : Answer → Link)
+module _ (setting : Setting) (trees : Trees) (address : List ℕ) (tree : Parts) (answers : List Answer) (doc : ℕ) (index : Indexed) (read : Answer → Link)
     (none : read Missing ≡ None) (only : (answer : Answer) → read answer ≡ None → answer ≡ Missing)
     (other_of : (name : List ℕ) (type : ℕ) (uri : List ℕ) → IsLeastRival index doc name type uri → IsLeastOther trees name type address uri)
     (rival_of : (name : List ℕ) (type : ℕ) (uri : List ℕ) → IsLeastOther trees name type address uri → IsLeastRival index doc name type uri)
-    (links : AllZip (LinksTo (IsNumberBelow g) trees address tree) tree.refs (map read answers)) where
-  of_value : (v : Value) (e : Diagnostic) → Contains (values_of tree.values) v → TellsValue v e → IsDiagnosticOf g trees address tree e
+    (links : AllZip (LinksTo (rules_of setting) trees address tree) tree.refs (map read answers)) where
+  of_value : (v : Value) (e : Diagnostic) → Contains (values_of tree.values) v → TellsValue v e → IsDiagnosticOf setting trees address tree e
   of_value (Huge s) e has is =
-      let found = at_some tree.values (Huge s) has in subst (IsDiagnosticOf g trees address tree) (sym is) (number found.0 found.1 found.2)
+      let found = at_some tree.values (Huge s) has in subst (IsDiagnosticOf setting trees address tree) (sym is) (number found.0 found.1 found.2)
   of_value (Text name s) e has is = absurd is
   of_value (Number n s) e has is = absurd is
   of_value (Raw name s) e has is = absurd is
@@ -98,19 +98,19 @@ module _ (g : Grammar) (trees : Trees) (address : List ℕ) (tree : Parts) (answ
   of_value (Child n) e has is = absurd is
   of_value (Refers r) e has is = absurd is
 
-  of_told : (e : Diagnostic) → IsTold g tree answers doc index e → IsDiagnosticOf g trees address tree e
+  of_told : (e : Diagnostic) → IsTold setting.grammar tree answers doc index e → IsDiagnosticOf setting trees address tree e
   of_told e (inl (inl (inl (i, r, at, (answer, there, (missing, tells)))))) =
-      subst (IsDiagnosticOf g trees address tree) (sym tells.is)
-      (unresolved r (among tree.refs i r at) (leads_nowhere (IsNumberBelow g) trees address tree read answers links i r at none (there ∙ ap Some missing)) tells.numbered)
+      subst (IsDiagnosticOf setting trees address tree) (sym tells.is)
+      (unresolved r (among tree.refs i r at) (leads_nowhere (rules_of setting) trees address tree read answers links i r at none (there ∙ ap Some missing)) tells.numbered)
   of_told e (inl (inl (inr (n, below, tells)))) =
-      subst (IsDiagnosticOf g trees address tree) (sym tells.is) (duplicate n tells.number tells.named tells.double tells.numbered)
+      subst (IsDiagnosticOf setting trees address tree) (sym tells.is) (duplicate n tells.number tells.named tells.double tells.numbered)
   of_told e (inl (inr (n, has, tells))) =
-      subst (IsDiagnosticOf g trees address tree) (sym tells.is)
+      subst (IsDiagnosticOf setting trees address tree) (sym tells.is)
       (also_exported n tells.number has tells.named (other_of tells.name tells.number tells.other tells.rival)
       tells.numbered)
   of_told e (inr (v, has, is)) = of_value v e has is
 
-  to_told : (e : Diagnostic) → IsDiagnosticOf g trees address tree e → IsTold g tree answers doc index e
+  to_told : (e : Diagnostic) → IsDiagnosticOf setting trees address tree e → IsTold setting.grammar tree answers doc index e
   to_told e (unresolved r {type = t} (i, inside, is) leads numbered) =
       let at : slice_get tree.refs i ≡ Some r = slice_get-get_or tree.refs i r inside ∙ ap Some is in
       inl (inl (inl (
@@ -119,7 +119,7 @@ module _ (g : Grammar) (trees : Trees) (address : List ℕ) (tree : Parts) (answ
         at,
         (
           Missing,
-          is_missing (IsNumberBelow g) trees address tree read answers links i r at only leads,
+          is_missing (rules_of setting) trees address tree read answers links i r at only leads,
           (
             refl,
             record {
@@ -161,33 +161,33 @@ module _ (g : Grammar) (trees : Trees) (address : List ℕ) (tree : Parts) (answ
       ))
   to_told e (number {s = s} node prop has) = inr (Huge s, among_all node prop tree.values (Huge s) has, refl)
 
-  pub all_told : (diagnostics : List Diagnostic) → AreTold g tree answers doc index diagnostics → AreDiagnosticsOf g trees address tree diagnostics
+  pub all_told : (diagnostics : List Diagnostic) → AreTold setting.grammar tree answers doc index diagnostics → AreDiagnosticsOf setting trees address tree diagnostics
   all_told diagnostics are = record {
     exact = λ e. (λ has. of_told e ((are.exact e).0 has), λ is. (are.exact e).1 (to_told e is));
     ordered = are.ordered;
   }
 
-  pub shown_too : (text : List ℕ) {E : Type 0} (r : Result (List Shown) E) → IfOk r (AreToldAndShown g tree answers doc index text) →
-      IfOk r (AreShown g trees address tree text)
+  pub shown_too : (text : List ℕ) {E : Type 0} (r : Result (List Shown) E) → IfOk r (AreToldAndShown setting.grammar tree answers doc index text) →
+      IfOk r (AreShown setting trees address tree text)
   shown_too text (Ok list) (diagnostics, are, shown) = (diagnostics, all_told diagnostics are, shown)
   shown_too text (Err e) is = tt
 
 -- ---- over an index, and alone
 
-pub over_index : (g : Grammar) (trees : Trees) (address : List ℕ) (tree : Parts) (answers : List Answer) (doc : ℕ) (index : Indexed) → IsIndexOf trees index →
-    IsDocumentOf trees index doc address tree → AllZip (LinksTo (IsNumberBelow g) trees address tree) tree.refs (map (link_of index) answers) →
-    (text : List ℕ) {E : Type 0} (r : Result (List Shown) E) → IfOk r (AreToldAndShown g tree answers doc index text) → IfOk r (AreShown g trees address tree text)
-over_index g trees address tree answers doc index stands own links =
-    shown_too g trees address tree answers doc index (link_of index) refl (missing index) (least_other trees index doc address tree stands own)
+pub over_index : (setting : Setting) (trees : Trees) (address : List ℕ) (tree : Parts) (answers : List Answer) (doc : ℕ) (index : Indexed) → IsIndexOf trees index →
+    IsDocumentOf trees index doc address tree → AllZip (LinksTo (rules_of setting) trees address tree) tree.refs (map (link_of index) answers) →
+    (text : List ℕ) {E : Type 0} (r : Result (List Shown) E) → IfOk r (AreToldAndShown setting.grammar tree answers doc index text) → IfOk r (AreShown setting trees address tree text)
+over_index setting trees address tree answers doc index stands own links =
+    shown_too setting trees address tree answers doc index (link_of index) refl (missing index) (least_other trees index doc address tree stands own)
     (least_rival trees index doc address tree stands own) links
 
 -- no document is held, and no other has a tree
-pub all_alone : (g : Grammar) (address : List ℕ) (tree : Parts) (answers : List Answer) (doc : ℕ) (index : Indexed) → index ≡ empty →
-    AllZip (LinksTo (IsNumberBelow g) (alone_at address tree) address tree) tree.refs (map (link_at address) answers) →
-    (text : List ℕ) {E : Type 0} (r : Result (List Shown) E) → IfOk r (AreToldAndShown g tree answers doc index text) →
-    IfOk r (AreShown g (alone_at address tree) address tree text)
-all_alone g address tree answers doc index nothing_held links =
-    shown_too g (alone_at address tree) address tree answers doc index (link_at address) refl (missing_alone address) no_rival no_other links
+pub all_alone : (setting : Setting) (address : List ℕ) (tree : Parts) (answers : List Answer) (doc : ℕ) (index : Indexed) → index ≡ empty →
+    AllZip (LinksTo (rules_of setting) (alone_at address tree) address tree) tree.refs (map (link_at address) answers) →
+    (text : List ℕ) {E : Type 0} (r : Result (List Shown) E) → IfOk r (AreToldAndShown setting.grammar tree answers doc index text) →
+    IfOk r (AreShown setting (alone_at address tree) address tree text)
+all_alone setting address tree answers doc index nothing_held links =
+    shown_too setting (alone_at address tree) address tree answers doc index (link_at address) refl (missing_alone address) no_rival no_other links
   where
     no_rival : (name : List ℕ) (type : ℕ) (uri : List ℕ) → IsLeastRival index doc name type uri → IsLeastOther (alone_at address tree) name type address uri
     no_rival name type uri is = absurd (no_least index doc name type uri nothing_held is)

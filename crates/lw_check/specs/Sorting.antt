@@ -1,7 +1,7 @@
 -- What the parts of a diagnostic tell that are kept in the order in which they are compared, and what is told of a document as it is shown.
 use Rattle.std.specs.Prelude.{ℕ, List, map}
 use Rattle.std.specs.List.{AllZip}
-use Rattle.lw_grammar.specs.declared.grammar.Grammar.{Grammar}
+use Rattle.lw_link_rules.specs.Setting.{Setting}
 use Rattle.lw_scoping.specs.Links.{Trees}
 use Rattle.lw_link_rules.specs.Diagnostics.{IsDiagnosticShown}
 use Rattle.lw_link_rules.specs.TreeDiagnostics.{Diagnostic, AreDiagnosticsOf}
@@ -16,6 +16,6 @@ abbrev pub diagnostics_of : List KeyedDiagnostic → List Diagnostic
 diagnostics_of diagnostics = map diagnostic_of diagnostics
 
 -- what is told of the document, which has this text, as it is shown
-abbrev pub AreShown : Grammar → Trees → List ℕ → Parts → List ℕ → List Shown → Type 0
-AreShown g trees address tree text list =
-    (diagnostics : List Diagnostic) × AreDiagnosticsOf g trees address tree diagnostics × AllZip (IsDiagnosticShown text) diagnostics list
+abbrev pub AreShown : Setting → Trees → List ℕ → Parts → List ℕ → List Shown → Type 0
+AreShown setting trees address tree text list =
+    (diagnostics : List Diagnostic) × AreDiagnosticsOf setting trees address tree diagnostics × AllZip (IsDiagnosticShown text) diagnostics list

@@ -3,6 +3,7 @@ ghost use Rattle.std.specs.Prelude.{ℕ, ◌≡◌, ◌≤◌, List, IfOk, false
 ghost use Rattle.std.specs.FinMap as table;
 ghost use Rattle.std.specs.List.{AllZip};
 ghost use Rattle.lw_grammar.specs.declared.grammar.Grammar.{Grammar};
+ghost use Rattle.lw_link_rules.specs.Setting.{Setting};
 ghost use Rattle.lw_grammar.specs.KindTexts.{AreKindTexts};
 ghost use Rattle.lw_link.specs.Alone.{link_at};
 ghost use Rattle.lw_link.specs.Indexed.{IsDocumentOf, IsIndexOf, link_of};
@@ -11,7 +12,7 @@ ghost use Rattle.lw_reading.specs.Within.{IsInText};
 ghost use Rattle.lw_scoping.specs.Links.{LinksTo, Trees};
 ghost use Rattle.lw_link_rules.specs.Diagnostics.{IsDiagnosticShown, alone_at};
 ghost use Rattle.lw_link_rules.specs.Faults.{IsFaultShown, IsShownAt, too_large_shown};
-ghost use Rattle.lw_link_rules.specs.Links.{IsNumberBelow};
+ghost use Rattle.lw_link_rules.specs.Links.{rules_of};
 ghost use Rattle.lw_types.specs.Inferred.{AreTypesOf};
 ghost use Rattle.lw_check.specs.Codes.{code_number};
 ghost use Rattle.lw_check.specs.Known.{AreKnownOf};
@@ -45,10 +46,10 @@ pub fn diagnostics(
     types: &Types,
 ) -> Result<Items<Shown>, NoMemory>
     requires { AreKnownOf document.now tree.now locals.now answers.now types.now }
-    ensures { (g : Grammar) (trees : Trees) (address : List ℕ) → AreTypesOf g types.now → IsIndexOf trees index.now →
+    ensures { (setting : Setting) (trees : Trees) (address : List ℕ) → AreTypesOf setting.grammar types.now → IsIndexOf trees index.now →
         IsDocumentOf trees index.now doc.0 address tree.now →
-        AllZip (LinksTo (IsNumberBelow g) trees address tree.now) tree.now.refs (map (link_of index.now) answers.now) →
-        IfOk result (AreShown g trees address tree.now document.now) }
+        AllZip (LinksTo (rules_of setting) trees address tree.now) tree.now.refs (map (link_of index.now) answers.now) →
+        IfOk result (AreShown setting trees address tree.now document.now) }
 {
     told_shown(
         alloc, document, tree, locals, answers, doc, index, true, types,
@@ -66,9 +67,9 @@ pub fn diagnostics_alone(
     types: &Types,
 ) -> Result<Items<Shown>, NoMemory>
     requires { AreKnownOf document.now tree.now locals.now answers.now types.now }
-    ensures { (g : Grammar) (address : List ℕ) → AreTypesOf g types.now →
-        AllZip (LinksTo (IsNumberBelow g) (alone_at address tree.now) address tree.now) tree.now.refs (map (link_at address) answers.now) →
-        IfOk result (AreShown g (alone_at address tree.now) address tree.now document.now) }
+    ensures { (setting : Setting) (address : List ℕ) → AreTypesOf setting.grammar types.now →
+        AllZip (LinksTo (rules_of setting) (alone_at address tree.now) address tree.now) tree.now.refs (map (link_at address) answers.now) →
+        IfOk result (AreShown setting (alone_at address tree.now) address tree.now document.now) }
 {
     let index = Index::new(alloc);
     told_shown(

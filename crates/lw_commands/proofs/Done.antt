@@ -6,6 +6,7 @@ use Rattle.lw_frame.specs.declared.fault.FrameFault.{FrameFault}
 use Rattle.lw_frame.specs.declared.limits.TheConstants.{LONGEST_SESSION}
 use Rattle.lw_frame.proofs.Growing.{bodies_stay, fault_stays}
 use Rattle.lw_grammar.specs.declared.grammar.Grammar.{Grammar}
+use Rattle.lw_link_rules.specs.Setting.{Setting}
 use Rattle.lw_conversation.specs.Reading.{AreOfFiles, Asked}
 use Rattle.lw_conversation.specs.Ending.{Lives}
 use Rattle.lw_conversation.specs.Standing.{Standing, beginning, unborn}
@@ -49,19 +50,19 @@ fronts (x ∷ xs) (y ∷ ys) r s e =
     by (inl longer) head = let tail = longer.1 in let whole : y ∷ ys ≡ x ∷ xs ++ longer.0 = cc in inl (longer.0, whole)
     by (inr longer) head = let tail = longer.1 in let whole : x ∷ xs ≡ y ∷ ys ++ longer.0 = cc in inr (longer.0, whole, longer.2)
 
-module _ (g : Grammar) (files : Files) (named : List (List ℕ × List ℕ)) (held taken : List ℕ) (is : IsSession held taken) where
+module _ (setting : Setting) (files : Files) (named : List (List ℕ × List ℕ)) (held taken : List ℕ) (is : IsSession held taken) where
   -- how bodies of the session end, by what they came to
   ends_as : (took : List ℕ) (t : Standing) (reads : List (List Asked)) (replies : List Reply) (ended : Ended) →
-      Serves g (beginning named) (bodies_of took) reads t replies ended → Lives unborn (bodies_of took) t.phase ended
-  ends_as took t reads replies ended serves = lives g (beginning named) t (bodies_of took) reads replies ended serves
+      Serves setting (beginning named) (bodies_of took) reads t replies ended → Lives unborn (bodies_of took) t.phase ended
+  ends_as took t reads replies ended serves = lives setting (beginning named) t (bodies_of took) reads replies ended serves
 
   -- the session is over, by these replies
   abbrev EndsBy : List Reply → Ended → Type 0
-  EndsBy replies ended = (Clean ≡ ended) × AreReplies g files named taken replies
+  EndsBy replies ended = (Clean ≡ ended) × AreReplies setting files named taken replies
 
   -- what bodies of more bytes than the session come to
   longer : (took more : List ℕ) → took ≡ taken ++ more → (t : Standing) (reads : List (List Asked)) (replies : List Reply) (ended : Ended) → All (AreOfFiles files) reads →
-      Serves g (beginning named) (bodies_of took) reads t replies ended → EndsBy replies ended
+      Serves setting (beginning named) (bodies_of took) reads t replies ended → EndsBy replies ended
   longer took more same t reads replies ended fit serves =
       let stay = bodies_stay taken more in
       let all : bodies_of took ≡ bodies_of taken ++ stay.0 = ap bodies_of same ∙ stay.1 in
@@ -69,21 +70,21 @@ module _ (g : Grammar) (files : Files) (named : List (List ℕ × List ℕ)) (he
       (one_end unborn is.last t.phase (bodies_of took) Clean ended
       (subst (λ bodies. Lives unborn bodies is.last Clean) (sym all) (lives_more unborn is.last (bodies_of taken) stay.0 Clean (λ e. cc) is.ends))
       (ends_as took t reads replies ended serves)).1 in
-      let whole : Serves g (beginning named) (bodies_of taken ++ stay.0) reads t replies Clean =
-      subst (λ bodies. Serves g (beginning named) bodies reads t replies Clean) all
-      (subst (λ e. Serves g (beginning named) (bodies_of took) reads t replies e) (sym end) serves) in (
+      let whole : Serves setting (beginning named) (bodies_of taken ++ stay.0) reads t replies Clean =
+      subst (λ bodies. Serves setting (beginning named) bodies reads t replies Clean) all
+      (subst (λ e. Serves setting (beginning named) (bodies_of took) reads t replies e) (sym end) serves) in (
         end,
         record {
           standing = t;
           asked = reads;
-          serves = serves_less g (bodies_of taken) stay.0 (beginning named) t is.last Clean reads replies Clean (λ e. cc) is.ends whole;
+          serves = serves_less setting (bodies_of taken) stay.0 (beginning named) t is.last Clean reads replies Clean (λ e. cc) is.ends whole;
           answered = fit;
         },
       )
 
   -- and of fewer, where they come to an end
   shorter : (took more : List ℕ) → taken ≡ took ++ more → (t : Standing) (reads : List (List Asked)) (replies : List Reply) (ended : Ended) → ended ≢ No →
-      All (AreOfFiles files) reads → Serves g (beginning named) (bodies_of took) reads t replies ended → EndsBy replies ended
+      All (AreOfFiles files) reads → Serves setting (beginning named) (bodies_of took) reads t replies ended → EndsBy replies ended
   shorter took more same t reads replies ended over fit serves =
       let stay = bodies_stay took more in
       let all : bodies_of taken ≡ bodies_of took ++ stay.0 = ap bodies_of same ∙ stay.1 in
@@ -91,14 +92,14 @@ module _ (g : Grammar) (files : Files) (named : List (List ℕ × List ℕ)) (he
       (one_end unborn is.last t.phase (bodies_of taken) Clean ended is.ends
       (subst (λ bodies. Lives unborn bodies t.phase ended) (sym all)
       (lives_more unborn t.phase (bodies_of took) stay.0 ended over (ends_as took t reads replies ended serves)))).1 in
-      let whole = serves_more g (beginning named) t (bodies_of took) stay.0 reads replies ended over serves in (
+      let whole = serves_more setting (beginning named) t (bodies_of took) stay.0 reads replies ended over serves in (
         end,
         record {
           standing = t;
           asked = reads;
           serves =
-              subst (λ e. Serves g (beginning named) (bodies_of taken) reads t replies e) (sym end)
-              (subst (λ bodies. Serves g (beginning named) bodies reads t replies ended) (sym all) whole);
+              subst (λ e. Serves setting (beginning named) (bodies_of taken) reads t replies e) (sym end)
+              (subst (λ bodies. Serves setting (beginning named) bodies reads t replies ended) (sym all) whole);
           answered = fit;
         },
       )
@@ -108,7 +109,7 @@ module _ (g : Grammar) (files : Files) (named : List (List ℕ × List ℕ)) (he
     both : taken ++ is.rest ≡ took ++ left
     both = sym is.parts ∙ parts
 
-    pub same_end : (ended : Ended) → ended ≢ No → Serves g (beginning named) (bodies_of took) reads t replies ended → EndsBy replies ended
+    pub same_end : (ended : Ended) → ended ≢ No → Serves setting (beginning named) (bodies_of took) reads t replies ended → EndsBy replies ended
     same_end ended over serves = by (fronts taken took is.rest left both)
       where
         by : ((m : List ℕ) × (took ≡ taken ++ m)) ⊎ ((m : List ℕ) × (taken ≡ took ++ m) × (left ≡ m ++ is.rest)) → EndsBy replies ended
@@ -116,7 +117,7 @@ module _ (g : Grammar) (files : Files) (named : List (List ℕ × List ℕ)) (he
         by (inr more) = shorter took more.0 more.1 t reads replies ended over fit serves
 
     -- a session that goes on is shorter
-    pub goes_on : Serves g (beginning named) (bodies_of took) reads t replies No → (m : List ℕ) × (taken ≡ took ++ m) × (left ≡ m ++ is.rest)
+    pub goes_on : Serves setting (beginning named) (bodies_of took) reads t replies No → (m : List ℕ) × (taken ≡ took ++ m) × (left ≡ m ++ is.rest)
     goes_on serves = by (fronts taken took is.rest left both)
       where
         by : ((m : List ℕ) × (took ≡ taken ++ m)) ⊎ ((m : List ℕ) × (taken ≡ took ++ m) × (left ≡ m ++ is.rest)) → (m : List ℕ) × (taken ≡ took ++ m) × (left ≡ m ++ is.rest)
@@ -124,7 +125,7 @@ module _ (g : Grammar) (files : Files) (named : List (List ℕ × List ℕ)) (he
         by (inr more) = more
 
     -- so something is left, and there is no fault for good
-    pub not_over : Serves g (beginning named) (bodies_of took) reads t replies No → left ≡ [] → ⊥
+    pub not_over : Serves setting (beginning named) (bodies_of took) reads t replies No → left ≡ [] → ⊥
     not_over serves none = by (goes_on serves)
       where
         nothing : (m : List ℕ) → left ≡ m ++ is.rest → m ≡ []
@@ -136,7 +137,7 @@ module _ (g : Grammar) (files : Files) (named : List (List ℕ × List ℕ)) (he
             let all : took ≡ taken ++ [] = sym (append-nil taken ∙ more.1 ∙ ap (λ m. took ++ m) (nothing more.0 more.2) ∙ append-nil took) in
             let end = (longer took [] all t reads replies No fit serves).0 in cc
 
-    pub not_faulty : Serves g (beginning named) (bodies_of took) reads t replies No → (found : FrameFault) → fault_of took false ≡ Some found → ⊥
+    pub not_faulty : Serves setting (beginning named) (bodies_of took) reads t replies No → (found : FrameFault) → fault_of took false ≡ Some found → ⊥
     not_faulty serves found fault = by (goes_on serves)
       where
         by : (m : List ℕ) × (taken ≡ took ++ m) × (left ≡ m ++ is.rest) → ⊥
@@ -148,7 +149,7 @@ module _ (g : Grammar) (files : Files) (named : List (List ℕ × List ℕ)) (he
             (subst (λ bodies. Lives unborn bodies t.phase No) all (ends_as took t reads replies No serves))).1 in
             cc
 
-    pub not_too_long : Serves g (beginning named) (bodies_of took) reads t replies No → length took ≡ LONGEST_SESSION → ⊥
+    pub not_too_long : Serves setting (beginning named) (bodies_of took) reads t replies No → length took ≡ LONGEST_SESSION → ⊥
     not_too_long serves long = by (goes_on serves)
       where
         by : (m : List ℕ) × (taken ≡ took ++ m) × (left ≡ m ++ is.rest) → ⊥
@@ -162,23 +163,23 @@ left_of held (Some left) taken consumed = (left, consumed, refl)
 at_end_of : (after : Option (List ℕ)) (left : List ℕ) → after ≡ Some left → IsAtEnd after → left ≡ []
 at_end_of after left is ended = subst IsAtEnd is ended
 
-module _ (files : Files) (path : List ℕ) (paths : List (List ℕ)) (k : ℕ) (refused after old new : Option (List ℕ)) (held : List ℕ) (faults : Faults) (g : Grammar)
-    (accepted : IsAccepted files path k g) (settled : AreSettledByFiles g) (none : NoneRose faults) (named : List (List ℕ × List ℕ)) (are : AreFileTexts files paths named)
+module _ (files : Files) (path : List ℕ) (paths : List (List ℕ)) (k : ℕ) (refused after old new : Option (List ℕ)) (held : List ℕ) (faults : Faults) (setting : Setting)
+    (accepted : IsAccepted files path k setting.grammar) (settled : AreSettledByFiles setting) (none : NoneRose faults) (named : List (List ℕ × List ℕ)) (are : AreFileTexts files paths named)
     (taken : List ℕ) (is : IsSession held taken) where
   -- a fact of the session over the texts that the files hold is one of this session
-  fact_of : (P : Grammar → List (List ℕ × List ℕ) → Type 0) → OfGrammar files path k (λ g. WithNamed files paths (P g)) → P g named
+  fact_of : (P : Grammar → List (List ℕ × List ℕ) → Type 0) → OfGrammar files path k (λ setting. WithNamed files paths (P setting)) → P setting named
   fact_of P o =
-      let fact = subst (λ h. WithNamed files paths (P h)) (same_accepted files path k g accepted o.grammar o.holds) o.fact in
-      subst (P g) (same_named files paths fact.0 named fact.1 are) fact.2
+      let fact = subst (λ h. WithNamed files paths (P h)) (same_accepted files path k setting.grammar accepted o.setting.grammar o.holds) o.fact in
+      subst (P setting) (same_named files paths fact.0 named fact.1 are) fact.2
 
   -- none of the files is unread, unless the store failed
-  all_read : (found : FileFault) → OfGrammar files path k (λ g. IsFirstUnread files paths found) → CountsAll faults (Err (stop.File found)) → ⊥
+  all_read : (found : FileFault) → OfGrammar files path k (λ setting. IsFirstUnread files paths found) → CountsAll faults (Err (stop.File found)) → ⊥
   all_read (file.Failed p) o counts = none TheStore (counts TheStore).rose
   all_read (file.Absent p) o counts = no_unread files paths named are (file.Absent p) o.fact (λ text fits. not_absent (file_at files p) text fits)
   all_read (file.NotUtf8 p) o counts = no_unread files paths named are (file.NotUtf8 p) o.fact (λ text fits. not_bytes (file_at files p) text fits)
   all_read (file.TooLong p) o counts = no_unread files paths named are (file.TooLong p) o.fact (λ text fits. not_long_text (file_at files p) text fits)
 
-  module _ (took : List ℕ) (ended : Ended) (talked : Talked g (Some files) named (Some held) after old new faults.store took ended) where
+  module _ (took : List ℕ) (ended : Ended) (talked : Talked setting (Some files) named (Some held) after old new faults.store took ended) where
     left : (left : List ℕ) × (held ≡ took ++ left) × (after ≡ Some left)
     left = left_of held after took talked.consumed
 
@@ -186,23 +187,23 @@ module _ (files : Files) (path : List ℕ) (paths : List (List ℕ)) (k : ℕ) (
     fits : All (AreOfFiles files) talked.asked
     fits = none_failed files faults.store talked.asked (none TheStore) talked.answered talked.counted
 
-    end_is : ended ≢ No → (Clean ≡ ended) × AreReplies g files named taken talked.replies
-    end_is over = same_end g files named held taken is took left.0 left.1 talked.standing talked.asked talked.replies fits ended over talked.serves
+    end_is : ended ≢ No → (Clean ≡ ended) × AreReplies setting files named taken talked.replies
+    end_is over = same_end setting files named held taken is took left.0 left.1 talked.standing talked.asked talked.replies fits ended over talked.serves
 
     module _ (still : ended ≡ No) where
-      serves_on : Serves g (beginning named) (bodies_of took) talked.asked talked.standing talked.replies No
-      serves_on = subst (λ e. Serves g (beginning named) (bodies_of took) talked.asked talked.standing talked.replies e) still talked.serves
+      serves_on : Serves setting (beginning named) (bodies_of took) talked.asked talked.standing talked.replies No
+      serves_on = subst (λ e. Serves setting (beginning named) (bodies_of took) talked.asked talked.standing talked.replies e) still talked.serves
 
       not_at_end : IsAtEnd after → ⊥
-      not_at_end over = not_over g files named held taken is took left.0 left.1 talked.standing talked.asked talked.replies fits serves_on (at_end_of after left.0 left.2 over)
+      not_at_end over = not_over setting files named held taken is took left.0 left.1 talked.standing talked.asked talked.replies fits serves_on (at_end_of after left.0 left.2 over)
 
       no_fault : (found : FrameFault) → fault_of took false ≡ Some found → ⊥
-      no_fault = not_faulty g files named held taken is took left.0 left.1 talked.standing talked.asked talked.replies fits serves_on
+      no_fault = not_faulty setting files named held taken is took left.0 left.1 talked.standing talked.asked talked.replies fits serves_on
 
       not_long : length took ≡ LONGEST_SESSION → ⊥
-      not_long = not_too_long g files named held taken is took left.0 left.1 talked.standing talked.asked talked.replies fits serves_on
+      not_long = not_too_long setting files named held taken is took left.0 left.1 talked.standing talked.asked talked.replies fits serves_on
 
-  clean : serving.Exited g (Some files) named (Some held) after old new faults.store Clean → ServeDone g files named taken old new 0
+  clean : serving.Exited setting (Some files) named (Some held) after old new faults.store Clean → ServeDone setting files named taken old new 0
   clean fact =
       let end = (end_is fact.0 Clean fact.1 (λ e. cc)).1 in
       serving.clean fact.1.replies end
@@ -211,43 +212,43 @@ module _ (files : Files) (path : List ℕ) (paths : List (List ℕ)) (k : ℕ) (
       also.serves end.serves).1)
       fact.1.written
 
-  broken : serving.Exited g (Some files) named (Some held) after old new faults.store Early ⊎ serving.RanOut g (Some files) named (Some held) after old new faults.store → ⊥
+  broken : serving.Exited setting (Some files) named (Some held) after old new faults.store Early ⊎ serving.RanOut setting (Some files) named (Some held) after old new faults.store → ⊥
   broken (inl fact) = let same = (end_is fact.0 Early fact.1 (λ e. cc)).0 in cc
   broken (inr fact) = not_at_end fact.0 No fact.1 refl fact.2
 
-  wrong : (found : FrameFault) → WentWrong g (Some files) named (Some held) after old new faults.store found → ⊥
+  wrong : (found : FrameFault) → WentWrong setting (Some files) named (Some held) after old new faults.store found → ⊥
   wrong found (took, talked, inl fault) = no_fault took No talked refl found fault
   wrong found (took, talked, inr over) = not_at_end took No talked refl over.0
 
   module _ (code : ℕ) where
-    at_code : {n : ℕ} → code ≡ n → ServeDone g files named taken old new n → ServeDone g files named taken old new code
-    at_code is done = subst (ServeDone g files named taken old new) (sym is) done
+    at_code : {n : ℕ} → code ≡ n → ServeDone setting files named taken old new n → ServeDone setting files named taken old new code
+    at_code is done = subst (ServeDone setting files named taken old new) (sym is) done
 
     pub session_done : (outcome : Result Verdict Stop) → EndsWith outcome code → ServeComesTo files path paths k refused (Some held) after old new faults.store outcome → CountsAll faults outcome →
-        ServeDone g files named taken old new code
-    session_done (Ok Whole) is came counts = at_code is (clean (fact_of (λ g named. serving.Exited g (Some files) named (Some held) after old new faults.store Clean) came))
+        ServeDone setting files named taken old new code
+    session_done (Ok Whole) is came counts = at_code is (clean (fact_of (λ setting named. serving.Exited setting (Some files) named (Some held) after old new faults.store Clean) came))
     session_done (Ok Broken) is came counts =
-        absurd (broken (fact_of (λ g named. serving.Exited g (Some files) named (Some held) after old new faults.store Early ⊎ serving.RanOut g (Some files) named (Some held) after old new faults.store) came))
+        absurd (broken (fact_of (λ setting named. serving.Exited setting (Some files) named (Some held) after old new faults.store Early ⊎ serving.RanOut setting (Some files) named (Some held) after old new faults.store) came))
     session_done (Err e) (inr seven) came counts = at_code seven serving.no_memory
     session_done (Err stop.Words) (inl is) came counts = absurd came.fact.2
     session_done (Err (stop.Grammar found)) (inl is) came counts =
-        at_code (is ∙ only_memory files path k refused faults g accepted none found came.0 counts) serving.no_memory
+        at_code (is ∙ only_memory files path k refused faults setting accepted none found came.0 counts) serving.no_memory
     session_done (Err (stop.File found)) (inl is) came counts = absurd (all_read found came.0 counts)
     session_done (Err stop.Read) (inl is) came counts = absurd (none TheSource (counts TheSource).rose)
     session_done (Err stop.Write) (inl is) came counts = absurd (none TheSink (counts TheSink).rose)
     session_done (Err stop.Memory) (inl is) came counts = at_code is serving.no_memory
-    session_done (Err (stop.Frames found)) (inl is) came counts = absurd (wrong found (fact_of (λ g named. WentWrong g (Some files) named (Some held) after old new faults.store found) came))
+    session_done (Err (stop.Frames found)) (inl is) came counts = absurd (wrong found (fact_of (λ setting named. WentWrong setting (Some files) named (Some held) after old new faults.store found) came))
     session_done (Err stop.Limit) (inl is) came counts =
-        let fact = fact_of (λ g named. serving.WasTooLong g (Some files) named (Some held) after old new faults.store) came in
+        let fact = fact_of (λ setting named. serving.WasTooLong setting (Some files) named (Some held) after old new faults.store) came in
         absurd (not_long fact.0 No fact.1 refl fact.2)
 
-pub serves_all : ((g : Grammar) → IsReadOneWay g → AreSettledByFiles g) → (words : List (List ℕ)) (w : Work) (notes : Option (List ℕ) × Option (List ℕ)) (failures : ℕ × ℕ) (code : ℕ) → Ends words w notes failures code →
+pub serves_all : ((setting : Setting) → IsReadOneWay setting.grammar → AreSettledByFiles setting) → (words : List (List ℕ)) (w : Work) (notes : Option (List ℕ) × Option (List ℕ)) (failures : ℕ × ℕ) (code : ℕ) → Ends words w notes failures code →
     ServesAll words w code
 serves_all settled words w notes failures code ends path paths k is = if_told w.files (λ files. by files w.left.0) (ends.comes_to.serve path paths k is)
   where
     by : (files : Files) (before : Option (List ℕ)) → ServeComesTo files path paths k w.refused before w.left.1 w.written.0 w.written.1 w.faults.store ends.outcome →
-        IfSome before (λ held. (g : Grammar) (named : List (List ℕ × List ℕ)) (taken : List ℕ) → IsAccepted files path k g → AreFileTexts files paths named →
-        IsSession held taken → NoneRose w.faults → ServeDone g files named taken w.written.0 w.written.1 code)
+        IfSome before (λ held. (setting : Setting) (named : List (List ℕ × List ℕ)) (taken : List ℕ) → IsAccepted files path k setting.grammar → AreFileTexts files paths named →
+        IsSession held taken → NoneRose w.faults → ServeDone setting files named taken w.written.0 w.written.1 code)
     by files None came = tt
-    by files (Some held) came = λ g named taken accepted are is none.
-        session_done files path paths k w.refused w.left.1 w.written.0 w.written.1 held w.faults g accepted (settled g (one_way g k accepted.clear)) none named are taken is code ends.outcome ends.status came ends.comes_to.counts
+    by files (Some held) came = λ setting named taken accepted are is none.
+        session_done files path paths k w.refused w.left.1 w.written.0 w.written.1 held w.faults setting accepted (settled setting (one_way setting.grammar k accepted.clear)) none named are taken is code ends.outcome ends.status came ends.comes_to.counts

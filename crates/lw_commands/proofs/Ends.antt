@@ -1,6 +1,6 @@
 -- That a run is told by its status, from what its work came to.
 use Rattle.std.proofs.Common.{◌≡◌, inl, inr, ℕ, List, [], Option, Some, None, Result, Ok, Err, IfSome, refl, sym, subst, ◌∙◌, take, arith}
-use Rattle.lw_grammar.specs.declared.grammar.Grammar.{Grammar}
+use Rattle.lw_link_rules.specs.Setting.{Setting}
 use Rattle.lw_load.specs.declared.fault.LoadFault.{LoadFault}
 use Rattle.lw_load.specs.declared.fault.LoadFault.TheVariants as loading
 use Rattle.lw_gramcheck.proofs.Faultless.{no_first_faults}
@@ -63,9 +63,9 @@ unasked count (Err (stop.Frames found)) counts = ([], counts)
 unasked count (Err stop.Limit) counts = ([], counts)
 
 -- where the path holds a grammar that is built and nothing fails, memory alone can be wanting
-module _ (files : Files) (path : List ℕ) (k : ℕ) (refused : Option (List ℕ)) (faults : Faults) (g : Grammar)
-    (accepted : IsAccepted files path k g) (none : NoneRose faults) where
-  abbrev clear : IsClear g k
+module _ (files : Files) (path : List ℕ) (k : ℕ) (refused : Option (List ℕ)) (faults : Faults) (setting : Setting)
+    (accepted : IsAccepted files path k setting.grammar) (none : NoneRose faults) where
+  abbrev clear : IsClear setting.grammar k
   clear = accepted.clear
 
   -- it is loaded, unless the store failed
@@ -79,59 +79,59 @@ module _ (files : Files) (path : List ℕ) (k : ℕ) (refused : Option (List ℕ
   loaded loading.NoMemory cause counts = refl
 
   -- it has a set of tokens, unless a pattern was refused
-  with_tokens : (texts : List (List ℕ)) (told : ToldTermFault) → HasNoTokens g texts refused told → CountsAll faults (Err (stop.Grammar (fault.Term told))) → ⊥
+  with_tokens : (texts : List (List ℕ)) (told : ToldTermFault) → HasNoTokens setting.grammar texts refused told → CountsAll faults (Err (stop.Grammar (fault.Term told))) → ⊥
   with_tokens texts told has counts = by has.fault told has.as_told has.cause counts
     where
-      by : (found : TermFault) (told : ToldTermFault) → IsTermToldAs g texts found told → token.CausesNoTokens g [] has.row refused found →
+      by : (found : TermFault) (told : ToldTermFault) → IsTermToldAs setting.grammar texts found told → token.CausesNoTokens setting.grammar [] has.row refused found →
           CountsAll faults (Err (stop.Grammar (fault.Term told))) → ⊥
-      by found told as_told.kinds cause counts = one_answer g [] has.row refused found clear.sound.tokens has.are_kinds tt cause
-      by found told (as_told.keyword is) cause counts = one_answer g [] has.row refused found clear.sound.tokens has.are_kinds tt cause
-      by found told (as_told.long is) cause counts = one_answer g [] has.row refused found clear.sound.tokens has.are_kinds tt cause
+      by found told as_told.kinds cause counts = one_answer setting.grammar [] has.row refused found clear.sound.tokens has.are_kinds tt cause
+      by found told (as_told.keyword is) cause counts = one_answer setting.grammar [] has.row refused found clear.sound.tokens has.are_kinds tt cause
+      by found told (as_told.long is) cause counts = one_answer setting.grammar [] has.row refused found clear.sound.tokens has.are_kinds tt cause
       by found told (as_told.refused is) cause counts = none ThePatterns (counts ThePatterns).rose
-      by found told (as_told.matches_empty is) cause counts = one_answer g [] has.row refused found clear.sound.tokens has.are_kinds tt cause
+      by found told (as_told.matches_empty is) cause counts = one_answer setting.grammar [] has.row refused found clear.sound.tokens has.are_kinds tt cause
 
   -- its strings are not too many, and the next kinds tell the ways of each choice apart
-  with_tables : (texts : List (List ℕ)) (told : ToldLookFault) → HasNoTables g texts k told → ⊥
+  with_tables : (texts : List (List ℕ)) (told : ToldLookFault) → HasNoTables setting.grammar texts k told → ⊥
   with_tables texts told has = by has.fault told has.as_told has.cause
     where
       same : clear.tables.kinds ≡ has.kinds
-      same = one_kinds g clear.tables.kinds has.kinds clear.tables.are has.are
+      same = one_kinds setting.grammar clear.tables.kinds has.kinds clear.tables.are has.are
 
-      by : (found : LookFault) (told : ToldLookFault) → IsLookToldAs g texts k found told → CausesNoTables g has.kinds k found → ⊥
-      by found told told_as.many cause = subst (λ kinds. ¬ HasMoreStrings g kinds k MOST_STRINGS) same clear.tables.few cause
+      by : (found : LookFault) (told : ToldLookFault) → IsLookToldAs setting.grammar texts k found told → CausesNoTables setting.grammar has.kinds k found → ⊥
+      by found told told_as.many cause = subst (λ kinds. ¬ HasMoreStrings setting.grammar kinds k MOST_STRINGS) same clear.tables.few cause
       by found told (told_as.conflict is) (few, cause) =
-          let tells = subst (λ kinds. IsLL g kinds k) same clear.tables.tells in
+          let tells = subst (λ kinds. IsLL setting.grammar kinds k) same clear.tables.tells in
           let equal = tells cause.site _ _ _ cause.shared.0 cause.shared.1 in
           absurd (omega (arith, equal, cause.ascending))
 
   -- and faultless, so that no list of faults, which is never empty, is told of it
-  faultless : (texts : List (List ℕ)) (told : List ToldFault) → AreAllTold g texts told → ⊥
-  faultless texts told all = no_first_faults g clear.sound.faultless all.faults all.all
+  faultless : (texts : List (List ℕ)) (told : List ToldFault) → AreAllTold setting.grammar texts told → ⊥
+  faultless texts told all = no_first_faults setting.grammar clear.sound.faultless all.faults all.all
 
   pub only_memory : (found : CompileFault) → Causes files path k refused found → CountsAll faults (Err (stop.Grammar found)) → fault_code found ≡ 7
   only_memory (fault.Load found) cause counts = loaded found cause counts
   only_memory (fault.Faults told) cause counts =
-      absurd (faultless cause.1.loaded.texts told (subst (λ h. AreAllTold h cause.1.loaded.texts told) (same_accepted files path k g accepted cause.0 cause.1) cause.2))
+      absurd (faultless cause.1.loaded.texts told (subst (λ h. AreAllTold h.grammar cause.1.loaded.texts told) (same_accepted files path k setting.grammar accepted cause.0 cause.1) cause.2))
   only_memory (fault.Term told) cause counts =
       absurd
       (with_tokens cause.1.loaded.texts told
-      (subst (λ h. HasNoTokens h cause.1.loaded.texts refused told) (same_accepted files path k g accepted cause.0 cause.1) cause.2) counts)
+      (subst (λ h. HasNoTokens h.grammar cause.1.loaded.texts refused told) (same_accepted files path k setting.grammar accepted cause.0 cause.1) cause.2) counts)
   only_memory (fault.Look told) cause counts =
       absurd
       (with_tables cause.1.loaded.texts told
-      (subst (λ h. HasNoTables h cause.1.loaded.texts k told) (same_accepted files path k g accepted cause.0 cause.1) cause.2))
+      (subst (λ h. HasNoTables h.grammar cause.1.loaded.texts k told) (same_accepted files path k setting.grammar accepted cause.0 cause.1) cause.2))
   only_memory fault.NoMemory cause counts = refl
 
   -- a document is read to its end
   module _ (held : List ℕ) (after old new : Option (List ℕ)) (code : ℕ) where
     abbrev IsDone : Type 0
-    IsDone = CheckDone g held old new code
+    IsDone = CheckDone setting held old new code
 
-    at_code : {n : ℕ} → code ≡ n → CheckDone g held old new n → IsDone
-    at_code is done = subst (CheckDone g held old new) (sym is) done
+    at_code : {n : ℕ} → code ≡ n → CheckDone setting held old new n → IsDone
+    at_code is done = subst (CheckDone setting held old new) (sym is) done
 
-    prints : (output : List ℕ) → checking.Prints files path k held output → Checked g (take most_read held) output
-    prints output p = subst (λ h. Checked h (take most_read held) output) (same_accepted files path k g accepted p.grammar p.holds) p.printed
+    prints : (output : List ℕ) → checking.Prints files path k held output → Checked setting (take most_read held) output
+    prints output p = subst (λ h. Checked h (take most_read held) output) (same_accepted files path k setting.grammar accepted p.setting.grammar p.holds) p.printed
 
     pub document_done : (outcome : Result Verdict Stop) → EndsWith outcome code → CheckComesTo files path k held refused after old new outcome → CountsAll faults outcome → IsDone
     document_done (Ok Whole) is came counts = at_code is (checking.whole (prints ok_line came.0) came.2)
@@ -156,6 +156,6 @@ pub checks_all : (words : List (List ℕ)) (w : Work) (notes : Option (List ℕ)
 checks_all words w notes failures code ends path k is =
     if_told w.files
     (λ files. if_told w.left.0
-    (λ held came g accepted none.
-    document_done files path k w.refused w.faults g accepted none held w.left.1 w.written.0 w.written.1 code ends.outcome ends.status came ends.comes_to.counts))
+    (λ held came setting accepted none.
+    document_done files path k w.refused w.faults setting accepted none held w.left.1 w.written.0 w.written.1 code ends.outcome ends.status came ends.comes_to.counts))
     (ends.comes_to.check path k is).1

@@ -1,6 +1,7 @@
 -- A path holds one grammar at most, and a session has one outcome by one by which its bodies and what the store answers settle it.
 use Rattle.std.proofs.Common.{◌≡◌, ℕ, List, sym, ap, ◌∙◌}
 use Rattle.lw_grammar.specs.declared.grammar.Grammar.{Grammar}
+use Rattle.lw_link_rules.specs.Setting.{Setting}
 use Rattle.lw_lang.specs.Compiled.{HoldsGrammar}
 use Rattle.lw_conversation.specs.Laws.{AreSettledByFiles}
 use Rattle.lw_conversation.specs.Reading.{Asked}
@@ -18,13 +19,13 @@ same_accepted files path k g accepted h other =
     sym other.same ∙ ap (λ l. l.grammar) (sym (other.only accepted.loaded accepted.loads)) ∙ accepted.same
 
 -- what a session comes to is settled by what the store answers
-abbrev pub AreSettledByAnswers : Grammar → Type 0
-AreSettledByAnswers g = (s t u : Standing) (bodies : List (List ℕ)) (asked : List (List Asked)) (p q : List Reply) (e f : Ended) →
-    Serves g s bodies asked t p e → Serves g s bodies asked u q f → (t ≡ u) × (p ≡ q) × (e ≡ f)
+abbrev pub AreSettledByAnswers : Setting → Type 0
+AreSettledByAnswers setting = (s t u : Standing) (bodies : List (List ℕ)) (asked : List (List Asked)) (p q : List Reply) (e f : Ended) →
+    Serves setting s bodies asked t p e → Serves setting s bodies asked u q f → (t ≡ u) × (p ≡ q) × (e ≡ f)
 
 -- by such a grammar a session has one outcome
-pub one_session : (g : Grammar) → AreSettledByAnswers g → AreSettledByFiles g → (files : Files) → HasOneOutcome files g
-one_session g by_answers by_files files = record {
+pub one_session : (setting : Setting) → AreSettledByAnswers setting → AreSettledByFiles setting → (files : Files) → HasOneOutcome files setting
+one_session setting by_answers by_files files = record {
   by_answers = λ named bodies asked t u p q e f. by_answers (beginning named) t u bodies asked p q e f;
   by_files = λ named bodies asked others t u p q e f. by_files files (beginning named) t u bodies asked others p q e f;
 }

@@ -2,7 +2,7 @@
 use Rattle.std.proofs.Common.{◌≡◌, ◌≢◌, ℕ, List, [], ◌∷◌, ◌++◌, Bool, true, false, ◌||◌, ◌==◌, codes, decimal, get_or, refl, sym, ap, subst, ◌∙◌, arith, string_bytes}
 use Rattle.std.specs.List.{flat_map, list_any}
 use Rattle.std.proofs.lemmas.List.Folds.{list_any-append}
-use Rattle.lw_grammar.specs.declared.grammar.Grammar.{Grammar}
+use Rattle.lw_link_rules.specs.Setting.{Setting}
 use Rattle.lw_text.specs.declared.shown.Shown.{Shown}
 use Rattle.lw_commands.specs.declared.report.Report.{Report}
 use Rattle.lw_commands.specs.declared.report.Verdict.TheVariants.{Broken}
@@ -42,15 +42,15 @@ pub line_is_not_ok : (shown : Shown) → diagnostic_line shown ≢ ok_line
 line_is_not_ok shown same = let none : has_colon ok_line ≡ true = ap has_colon (sym same) ∙ diagnostic_colon shown in cc
 
 -- a report that is not `ok`
-pub broken_report : (g : Grammar) (bytes output : List ℕ) (report : Report) → Checked g bytes output → output ≢ ok_line → string_bytes report.text ≡ output → report.verdict ≡ Broken →
-    IsReport g bytes report
-broken_report g bytes output report printed other is verdict = record {
-  printed = subst (Checked g bytes) (sym is) printed;
+pub broken_report : (setting : Setting) (bytes output : List ℕ) (report : Report) → Checked setting bytes output → output ≢ ok_line → string_bytes report.text ≡ output → report.verdict ≡ Broken →
+    IsReport setting bytes report
+broken_report setting bytes output report printed other is verdict = record {
+  printed = subst (Checked setting bytes) (sym is) printed;
   verdict = subst (λ v. IsVerdict (string_bytes report.text) v) (sym verdict) (λ same. other (sym is ∙ same));
 }
 
 -- the report on a list that is not empty
-pub listed_report : (g : Grammar) (bytes : List ℕ) (list : List Shown) (report : Report) → Checked g bytes (list_lines list) → list ≢ [] →
-    string_bytes report.text ≡ flat_map diagnostic_line list → report.verdict ≡ Broken → IsReport g bytes report
-listed_report g bytes [] report printed some is verdict = absurd (some refl)
-listed_report g bytes (first ∷ others) report printed some is verdict = broken_report g bytes (list_lines (first ∷ others)) report printed (lines_are_not_ok first others) is verdict
+pub listed_report : (setting : Setting) (bytes : List ℕ) (list : List Shown) (report : Report) → Checked setting bytes (list_lines list) → list ≢ [] →
+    string_bytes report.text ≡ flat_map diagnostic_line list → report.verdict ≡ Broken → IsReport setting bytes report
+listed_report setting bytes [] report printed some is verdict = absurd (some refl)
+listed_report setting bytes (first ∷ others) report printed some is verdict = broken_report setting bytes (list_lines (first ∷ others)) report printed (lines_are_not_ok first others) is verdict

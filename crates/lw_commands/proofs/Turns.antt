@@ -4,7 +4,7 @@ use Rattle.std.proofs.lemmas.List.{take-append-le}
 use Rattle.std.proofs.lemmas.List.Elements.{All-nil, All-push}
 use Rattle.std.specs.Io.KnownBytes.{Appends, Consumes, IsAtEnd, Keeps}
 use Rattle.std.proofs.KnownBytes.{Appends-nil, Appends-trans, Appends-kept, Consumes-nil, Consumes-trans, Consumes-kept}
-use Rattle.lw_grammar.specs.declared.grammar.Grammar.{Grammar}
+use Rattle.lw_link_rules.specs.Setting.{Setting}
 use Rattle.lw_io.specs.Whole.{WritesFront}
 use Rattle.lw_frame.specs.Frames.{bodies_of, fault_of, rest_of}
 use Rattle.lw_frame.specs.Stream.{Stream, start, with_piece, answer_next, next_body, next_answer, handed, after_next}
@@ -66,22 +66,22 @@ last_of (b ∷ bodies) body n is =
 
 -- ---- what a turn leaves, by what the next call answered
 
-module _ (g : Grammar) (told : Option Files) (named : List (List ℕ × List ℕ)) (before after old new : Option (List ℕ)) (count : ℕ × ℕ) where
+module _ (setting : Setting) (told : Option Files) (named : List (List ℕ × List ℕ)) (before after old new : Option (List ℕ)) (count : ℕ × ℕ) where
   abbrev pub AfterStop : Stop → Type 0
-  AfterStop stop.Write = TalkedUpTo g told named before after old new count
-  AfterStop stop.Memory = TalkedSome g told named before after old new
-  AfterStop (stop.Frames found) = WentWrong g told named before after old new count found
+  AfterStop stop.Write = TalkedUpTo setting told named before after old new count
+  AfterStop stop.Memory = TalkedSome setting told named before after old new
+  AfterStop (stop.Frames found) = WentWrong setting told named before after old new count found
   AfterStop _ = ⊥
 
   abbrev pub AfterTurn : Stream → Standing → Result Ended Stop → Type 0
-  AfterTurn s t (Ok No) = IsUnderway g told named before after old new count s t
-  AfterTurn s t (Ok Clean) = Exited g told named before after old new count Clean
-  AfterTurn s t (Ok Early) = Exited g told named before after old new count Early
+  AfterTurn s t (Ok No) = IsUnderway setting told named before after old new count s t
+  AfterTurn s t (Ok Clean) = Exited setting told named before after old new count Clean
+  AfterTurn s t (Ok Early) = Exited setting told named before after old new count Early
   AfterTurn s t (Err found) = AfterStop found
 
-module _ (g : Grammar) (told : Option Files) (named : List (List ℕ × List ℕ)) (before now old mid : Option (List ℕ)) (began here : ℕ) (s : Stream) (standing : Standing)
-    (way : IsUnderway g told named before now old mid (began, here) s standing) where
-  talked : Talked g told named before now old mid (began, here) s.fed No
+module _ (setting : Setting) (told : Option Files) (named : List (List ℕ × List ℕ)) (before now old mid : Option (List ℕ)) (began here : ℕ) (s : Stream) (standing : Standing)
+    (way : IsUnderway setting told named before now old mid (began, here) s standing) where
+  talked : Talked setting told named before now old mid (began, here) s.fed No
   talked = record {
     standing = standing;
     asked = way.asked;
@@ -95,7 +95,7 @@ module _ (g : Grammar) (told : Option Files) (named : List (List ℕ × List ℕ
   }
 
   -- a read failed
-  pub cut_off : (after : Option (List ℕ)) → Keeps now after → length s.fed < LONGEST_SESSION → WasCutOff g told named before after old mid (began, here)
+  pub cut_off : (after : Option (List ℕ)) → Keeps now after → length s.fed < LONGEST_SESSION → WasCutOff setting told named before after old mid (began, here)
   cut_off after keeps short = (
     s.fed,
     record {
@@ -114,11 +114,11 @@ module _ (g : Grammar) (told : Option Files) (named : List (List ℕ × List ℕ
   )
 
   -- too many bytes
-  pub too_long : length s.fed ≡ LONGEST_SESSION → WasTooLong g told named before now old mid (began, here)
+  pub too_long : length s.fed ≡ LONGEST_SESSION → WasTooLong setting told named before now old mid (began, here)
   too_long is = (s.fed, talked, is, way.sound)
 
   -- memory was refused behind a read
-  pub lost_piece : (after : Option (List ℕ)) (bytes : List ℕ) → Consumes now after bytes → EndsWithin s.fed bytes → TalkedSome g told named before after old mid
+  pub lost_piece : (after : Option (List ℕ)) (bytes : List ℕ) → Consumes now after bytes → EndsWithin s.fed bytes → TalkedSome setting told named before after old mid
   lost_piece after bytes consumed within = record {
     taken = s.fed ++ bytes;
     bodies = bodies_of s.fed;
@@ -140,7 +140,7 @@ module _ (g : Grammar) (told : Option Files) (named : List (List ℕ × List ℕ
 
   -- the source is at its end
   module _ (after : Option (List ℕ)) (ended : IsAtEnd after) (keeps : Keeps now after) (short : length s.fed < LONGEST_SESSION) where
-    over : Talked g told named before after old mid (began, here) s.fed No
+    over : Talked setting told named before after old mid (began, here) s.fed No
     over = record {
       standing = standing;
       asked = way.asked;
@@ -153,10 +153,10 @@ module _ (g : Grammar) (told : Option Files) (named : List (List ℕ × List ℕ
       counted = way.counted;
     }
 
-    pub ran_out : fault_of s.fed true ≡ None → RanOut g told named before after old mid (began, here)
+    pub ran_out : fault_of s.fed true ≡ None → RanOut setting told named before after old mid (began, here)
     ran_out none = (s.fed, over, ended, short, none)
 
-    pub broke_off : (found : FrameFault) → fault_of s.fed true ≡ Some found → WentWrong g told named before after old mid (began, here) found
+    pub broke_off : (found : FrameFault) → fault_of s.fed true ≡ Some found → WentWrong setting told named before after old mid (began, here) found
     broke_off found is = (s.fed, over, inr (ended, short, is))
 
   -- ---- a piece was taken
@@ -170,12 +170,12 @@ module _ (g : Grammar) (told : Option Files) (named : List (List ℕ × List ℕ
       pub none_next : next_body (with_piece s bytes) ≡ None
       none_next = ap (λ bodies. slice_get bodies s.given) same ∙ none_behind (bodies_of s.fed) s.given way.all_given
 
-      serves_all : Serves g (beginning named) (bodies_of (s.fed ++ bytes)) way.asked standing way.replies No
-      serves_all = subst (λ bodies. Serves g (beginning named) bodies way.asked standing way.replies No) (sym same) way.serves
+      serves_all : Serves setting (beginning named) (bodies_of (s.fed ++ bytes)) way.asked standing way.replies No
+      serves_all = subst (λ bodies. Serves setting (beginning named) bodies way.asked standing way.replies No) (sym same) way.serves
 
       -- and no fault: the session goes on
       goes_on : (new : Option (List ℕ)) (there : ℕ) → Keeps mid new → there ≡ here → fault_of (s.fed ++ bytes) false ≡ None →
-          IsUnderway g told named before after old new (began, there) (with_piece s bytes) standing
+          IsUnderway setting told named before after old new (began, there) (with_piece s bytes) standing
       goes_on new there keeps same_count none = record {
         asked = way.asked;
         replies = way.replies;
@@ -192,7 +192,7 @@ module _ (g : Grammar) (told : Option Files) (named : List (List ℕ × List ℕ
 
       -- and a fault
       went_wrong : (new : Option (List ℕ)) (there : ℕ) → Keeps mid new → there ≡ here → (found : FrameFault) → fault_of (s.fed ++ bytes) false ≡ Some found →
-          WentWrong g told named before after old new (began, there) found
+          WentWrong setting told named before after old new (began, there) found
       went_wrong new there keeps same_count found is = (
         s.fed ++ bytes,
         record {
@@ -214,13 +214,13 @@ module _ (g : Grammar) (told : Option Files) (named : List (List ℕ × List ℕ
       pub one_next : next_body (with_piece s bytes) ≡ Some body
       one_next = ap (λ bodies. slice_get bodies s.given) one ∙ last_of (bodies_of s.fed) body s.given way.all_given
 
-      module _ (new : Option (List ℕ)) (there : ℕ) (t : Standing) (ended : Ended) (responds : Responds g told standing mid new (here, there) body t ended) where
+      module _ (new : Option (List ℕ)) (there : ℕ) (t : Standing) (ended : Ended) (responds : Responds setting told standing mid new (here, there) body t ended) where
         abbrev reads : List (List Asked)
         reads = way.asked ++ responds.asked ∷ []
 
-        served : Serves g (beginning named) (bodies_of (s.fed ++ bytes)) reads t (way.replies ++ responds.replies) ended
-        served = subst (λ bodies. Serves g (beginning named) bodies reads t (way.replies ++ responds.replies) ended) (sym one)
-            (Serves-push g (beginning named) standing t (bodies_of s.fed) body way.asked responds.asked way.replies responds.replies No ended refl way.serves responds.handles)
+        served : Serves setting (beginning named) (bodies_of (s.fed ++ bytes)) reads t (way.replies ++ responds.replies) ended
+        served = subst (λ bodies. Serves setting (beginning named) bodies reads t (way.replies ++ responds.replies) ended) (sym one)
+            (Serves-push setting (beginning named) standing t (bodies_of s.fed) body way.asked responds.asked way.replies responds.replies No ended refl way.serves responds.handles)
 
         written_all : Appends old new (framed (way.replies ++ responds.replies))
         written_all = subst (Appends old new) (sym (framed-append way.replies responds.replies)) (Appends-trans old mid new _ _ way.written responds.written)
@@ -232,7 +232,7 @@ module _ (g : Grammar) (told : Option Files) (named : List (List ℕ × List ℕ
         counted_all =
             responds.counted ∙ ap (λ count. count_after count responds.asked) way.counted ∙ sym (count_through-push way.asked responds.asked began)
 
-        talked_all : Talked g told named before after old new (began, there) (s.fed ++ bytes) ended
+        talked_all : Talked setting told named before after old new (began, there) (s.fed ++ bytes) ended
         talked_all = record {
           standing = t;
           asked = reads;
@@ -245,7 +245,7 @@ module _ (g : Grammar) (told : Option Files) (named : List (List ℕ × List ℕ
           counted = counted_all;
         }
 
-        pub exited : rest_of (s.fed ++ bytes) ≡ [] → Exited g told named before after old new (began, there) ended
+        pub exited : rest_of (s.fed ++ bytes) ≡ [] → Exited setting told named before after old new (began, there) ended
         exited nothing = (
           s.fed ++ bytes,
           talked_all,
@@ -261,7 +261,7 @@ module _ (g : Grammar) (told : Option Files) (named : List (List ℕ × List ℕ
           nothing,
         )
 
-        pub goes_on_behind : ended ≡ No → fault_of (s.fed ++ bytes) false ≡ None → IsUnderway g told named before after old new (began, there) (record (with_piece s bytes) { given = s.given + 1 }) t
+        pub goes_on_behind : ended ≡ No → fault_of (s.fed ++ bytes) false ≡ None → IsUnderway setting told named before after old new (began, there) (record (with_piece s bytes) { given = s.given + 1 }) t
         goes_on_behind no_end none = record {
           asked = reads;
           replies = way.replies ++ responds.replies;
@@ -270,7 +270,7 @@ module _ (g : Grammar) (told : Option Files) (named : List (List ℕ × List ℕ
           sound = none;
           within = fits;
           consumed = consumed_all;
-          serves = subst (λ e. Serves g (beginning named) (bodies_of (s.fed ++ bytes)) reads t (way.replies ++ responds.replies) e) no_end served;
+          serves = subst (λ e. Serves setting (beginning named) (bodies_of (s.fed ++ bytes)) reads t (way.replies ++ responds.replies) e) no_end served;
           written = written_all;
           answered = answered_all;
           counted = counted_all;
@@ -278,7 +278,7 @@ module _ (g : Grammar) (told : Option Files) (named : List (List ℕ × List ℕ
 
       -- a part of the replies was written
       module _ (new : Option (List ℕ)) (there : ℕ) where
-        wrote_part : RespondsInPart g told standing mid new (here, there) body → TalkedUpTo g told named before after old new (began, there)
+        wrote_part : RespondsInPart setting told standing mid new (here, there) body → TalkedUpTo setting told named before after old new (began, there)
         wrote_part part = (
           record {
             taken = s.fed ++ bytes;
@@ -290,7 +290,7 @@ module _ (g : Grammar) (told : Option Files) (named : List (List ℕ × List ℕ
             ended = part.ended;
             consumed = consumed_all;
             parts = one ∙ sym (append-nil (bodies_of s.fed ++ body ∷ []));
-            serves = Serves-push g (beginning named) standing part.standing (bodies_of s.fed) body way.asked part.asked way.replies part.replies No part.ended refl way.serves
+            serves = Serves-push setting (beginning named) standing part.standing (bodies_of s.fed) body way.asked part.asked way.replies part.replies No part.ended refl way.serves
                 part.handles;
             written = subst (WritesPart old new) (sym (framed-append way.replies part.replies))
                 (WritesPart-behind old mid new (framed way.replies) (framed part.replies) way.written part.written);
@@ -300,7 +300,7 @@ module _ (g : Grammar) (told : Option Files) (named : List (List ℕ × List ℕ
         )
 
         -- or nothing was
-        wrote_nothing : Keeps mid new → TalkedSome g told named before after old new
+        wrote_nothing : Keeps mid new → TalkedSome setting told named before after old new
         wrote_nothing keeps = record {
           taken = s.fed ++ bytes;
           bodies = bodies_of s.fed;
@@ -316,7 +316,7 @@ module _ (g : Grammar) (told : Option Files) (named : List (List ℕ × List ℕ
           answered = way.answered;
         }
 
-        pub stopped : (found : Stop) → StopsResponding g told standing mid new (here, there) body found → AfterStop g told named before after old new (began, there) found
+        pub stopped : (found : Stop) → StopsResponding setting told standing mid new (here, there) body found → AfterStop setting told named before after old new (began, there) found
         stopped stop.Write part = wrote_part part
         stopped stop.Memory (inl keeps) = wrote_nothing keeps
         stopped stop.Memory (inr part) = (wrote_part part).0
@@ -329,49 +329,49 @@ module _ (g : Grammar) (told : Option Files) (named : List (List ℕ × List ℕ
 
 -- ---- the turns, by what the next call answered
 
-module _ (g : Grammar) (told : Option Files) (named : List (List ℕ × List ℕ)) (before now after old mid new : Option (List ℕ)) (began here there : ℕ) (s : Stream) (standing : Standing)
-    (way : IsUnderway g told named before now old mid (began, here) s standing) (bytes : List ℕ) (consumed : Consumes now after bytes) (fits : length (s.fed ++ bytes) ≤ LONGEST_SESSION) where
+module _ (setting : Setting) (told : Option Files) (named : List (List ℕ × List ℕ)) (before now after old mid new : Option (List ℕ)) (began here there : ℕ) (s : Stream) (standing : Standing)
+    (way : IsUnderway setting told named before now old mid (began, here) s standing) (bytes : List ℕ) (consumed : Consumes now after bytes) (fits : length (s.fed ++ bytes) ≤ LONGEST_SESSION) where
   open_fault : (closed : Bool) → s.closed ≡ closed → closed ≡ false → fault_of (s.fed ++ bytes) s.closed ≡ fault_of (s.fed ++ bytes) false
   open_fault closed is false_ = ap (fault_of (s.fed ++ bytes)) (is ∙ false_)
 
   -- no body
   without : (t : Standing) → bodies_of (s.fed ++ bytes) ≡ bodies_of s.fed → (within : EndsWithin s.fed bytes) (fault : Option FrameFault) → fault_of (s.fed ++ bytes) false ≡ fault →
-      (outcome : Result Ended Stop) → AnswersNext g told standing mid new (here, there) (answer_next None fault) t outcome → AfterTurn g told named before after old new (began, there) (with_piece s bytes) t outcome
+      (outcome : Result Ended Stop) → AnswersNext setting told standing mid new (here, there) (answer_next None fault) t outcome → AfterTurn setting told named before after old new (began, there) (with_piece s bytes) t outcome
   without t same within None none outcome answers =
-      subst (AfterTurn g told named before after old new (began, there) (with_piece s bytes) t) (sym answers.0)
-      (subst (IsUnderway g told named before after old new (began, there) (with_piece s bytes)) (sym answers.1) (goes_on g told named before now old mid began here s standing way after bytes consumed within fits same new there answers.2 answers.3 none))
+      subst (AfterTurn setting told named before after old new (began, there) (with_piece s bytes) t) (sym answers.0)
+      (subst (IsUnderway setting told named before after old new (began, there) (with_piece s bytes)) (sym answers.1) (goes_on setting told named before now old mid began here s standing way after bytes consumed within fits same new there answers.2 answers.3 none))
   without t same within (Some found) is outcome answers =
-      subst (AfterTurn g told named before after old new (began, there) (with_piece s bytes) t) (sym answers.0) (went_wrong g told named before now old mid began here s standing way after bytes consumed within fits same new there answers.2 answers.3 found is)
+      subst (AfterTurn setting told named before after old new (began, there) (with_piece s bytes) t) (sym answers.0) (went_wrong setting told named before now old mid began here s standing way after bytes consumed within fits same new there answers.2 answers.3 found is)
 
   -- one body
   with_one : (t : Standing) (within : EndsWithin s.fed bytes) (body : List ℕ) → bodies_of (s.fed ++ bytes) ≡ bodies_of s.fed ++ body ∷ [] → rest_of (s.fed ++ bytes) ≡ [] → fault_of (s.fed ++ bytes) false ≡ None →
-      (outcome : Result Ended Stop) → AnswersNext g told standing mid new (here, there) (Ok (Some body)) t outcome → AfterTurn g told named before after old new (began, there) (record (with_piece s bytes) { given = s.given + 1 }) t outcome
-  with_one t within body one nothing none (Ok No) responds = goes_on_behind g told named before now old mid began here s standing way after bytes consumed within fits body one new there t No responds refl none
-  with_one t within body one nothing none (Ok Clean) responds = exited g told named before now old mid began here s standing way after bytes consumed within fits body one new there t Clean responds nothing
-  with_one t within body one nothing none (Ok Early) responds = exited g told named before now old mid began here s standing way after bytes consumed within fits body one new there t Early responds nothing
-  with_one t within body one nothing none (Err found) part = stopped g told named before now old mid began here s standing way after bytes consumed within fits body one new there found part
+      (outcome : Result Ended Stop) → AnswersNext setting told standing mid new (here, there) (Ok (Some body)) t outcome → AfterTurn setting told named before after old new (began, there) (record (with_piece s bytes) { given = s.given + 1 }) t outcome
+  with_one t within body one nothing none (Ok No) responds = goes_on_behind setting told named before now old mid began here s standing way after bytes consumed within fits body one new there t No responds refl none
+  with_one t within body one nothing none (Ok Clean) responds = exited setting told named before now old mid began here s standing way after bytes consumed within fits body one new there t Clean responds nothing
+  with_one t within body one nothing none (Ok Early) responds = exited setting told named before now old mid began here s standing way after bytes consumed within fits body one new there t Early responds nothing
+  with_one t within body one nothing none (Err found) part = stopped setting told named before now old mid began here s standing way after bytes consumed within fits body one new there found part
 
   -- What a turn leaves: the reader hands out what the piece brought, and it is answered.
-  pub turn : (t : Standing) (within : EndsWithin s.fed bytes) (outcome : Result Ended Stop) → AnswersNext g told standing mid new (here, there) (next_answer (with_piece s bytes)) t outcome →
-      AfterTurn g told named before after old new (began, there) (after_next (with_piece s bytes)) t outcome
+  pub turn : (t : Standing) (within : EndsWithin s.fed bytes) (outcome : Result Ended Stop) → AnswersNext setting told standing mid new (here, there) (next_answer (with_piece s bytes)) t outcome →
+      AfterTurn setting told named before after old new (began, there) (after_next (with_piece s bytes)) t outcome
   turn t (inl same) outcome answers =
-      let none = none_next g told named before now old mid began here s standing way after bytes consumed (inl same) fits same in
+      let none = none_next setting told named before now old mid began here s standing way after bytes consumed (inl same) fits same in
       let fault = open_fault s.closed refl way.going_on in
-      let at : AnswersNext g told standing mid new (here, there) (answer_next None (fault_of (s.fed ++ bytes) false)) t outcome =
-      subst (λ f. AnswersNext g told standing mid new (here, there) (answer_next None f) t outcome) fault (subst (λ o. AnswersNext g told standing mid new (here, there) (answer_next o (fault_of (s.fed ++ bytes) s.closed)) t outcome) none answers) in
-      subst (λ o. AfterTurn g told named before after old new (began, there) (handed o (with_piece s bytes)) t outcome) (sym none) (without t same (inl same) (fault_of (s.fed ++ bytes) false) refl outcome at)
+      let at : AnswersNext setting told standing mid new (here, there) (answer_next None (fault_of (s.fed ++ bytes) false)) t outcome =
+      subst (λ f. AnswersNext setting told standing mid new (here, there) (answer_next None f) t outcome) fault (subst (λ o. AnswersNext setting told standing mid new (here, there) (answer_next o (fault_of (s.fed ++ bytes) s.closed)) t outcome) none answers) in
+      subst (λ o. AfterTurn setting told named before after old new (began, there) (handed o (with_piece s bytes)) t outcome) (sym none) (without t same (inl same) (fault_of (s.fed ++ bytes) false) refl outcome at)
   turn t (inr one) outcome answers =
-      let some = one_next g told named before now old mid began here s standing way after bytes consumed (inr one) fits one.0 one.1 in
-      let at : AnswersNext g told standing mid new (here, there) (Ok (Some one.0)) t outcome =
-      subst (λ o. AnswersNext g told standing mid new (here, there) (answer_next o (fault_of (s.fed ++ bytes) s.closed)) t outcome) some answers in
-      subst (λ o. AfterTurn g told named before after old new (began, there) (handed o (with_piece s bytes)) t outcome) (sym some) (with_one t (inr one) one.0 one.1 one.2 (one.3 false) outcome at)
+      let some = one_next setting told named before now old mid began here s standing way after bytes consumed (inr one) fits one.0 one.1 in
+      let at : AnswersNext setting told standing mid new (here, there) (Ok (Some one.0)) t outcome =
+      subst (λ o. AnswersNext setting told standing mid new (here, there) (answer_next o (fault_of (s.fed ++ bytes) s.closed)) t outcome) some answers in
+      subst (λ o. AfterTurn setting told named before after old new (began, there) (handed o (with_piece s bytes)) t outcome) (sym some) (with_one t (inr one) one.0 one.1 one.2 (one.3 false) outcome at)
 
 -- nothing was taken yet
-pub underway_start : (g : Grammar) (told : Option Files) (named : List (List ℕ × List ℕ)) (left written : Option (List ℕ)) (count : ℕ) (s : Stream) (standing : Standing) → s ≡ start →
-    standing ≡ beginning named → IsUnderway g told named left left written written (count, count) s standing
-underway_start g told named left written count s standing is begins =
-    subst (λ st. IsUnderway g told named left left written written (count, count) s st) (sym begins)
-    (subst (λ st. IsUnderway g told named left left written written (count, count) st (beginning named)) (sym is) (record {
+pub underway_start : (setting : Setting) (told : Option Files) (named : List (List ℕ × List ℕ)) (left written : Option (List ℕ)) (count : ℕ) (s : Stream) (standing : Standing) → s ≡ start →
+    standing ≡ beginning named → IsUnderway setting told named left left written written (count, count) s standing
+underway_start setting told named left written count s standing is begins =
+    subst (λ st. IsUnderway setting told named left left written written (count, count) s st) (sym begins)
+    (subst (λ st. IsUnderway setting told named left left written written (count, count) st (beginning named)) (sym is) (record {
       asked = [];
       replies = [];
       going_on = refl;

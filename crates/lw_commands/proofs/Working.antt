@@ -3,6 +3,7 @@ use Rattle.std.proofs.Common.{◌≡◌, ◌⊎◌, inl, inr, ℕ, List, [], Opt
 use Rattle.std.specs.Io.KnownBytes.{Appends, Keeps}
 use Rattle.std.proofs.KnownBytes.{Keeps-refl, Consumes-kept, Consumes-nil}
 use Rattle.lw_grammar.specs.declared.grammar.Grammar.{Grammar}
+use Rattle.lw_link_rules.specs.Setting.{Setting}
 use Rattle.lw_io.specs.Whole.{WritesFront}
 use Rattle.lw_lang.specs.Compiled.{Causes, HoldsGrammar, IsClear}
 use Rattle.lw_lang.specs.declared.fault.CompileFault.{CompileFault}
@@ -66,19 +67,19 @@ works_unread (Some files) None after path k refused old g e r holds clear stops 
 works_unread (Some files) (Some held) after path k refused old g e (Ok verdict) holds clear stops is = absurd is
 works_unread (Some files) (Some held) after path k refused old g e (Err s) holds clear stops is =
     subst (λ s. CheckComesTo files path k held refused after old old (Err s)) (sym is)
-    (unread files path k held refused after old old (record { grammar = g; holds = holds; clear = clear }) e stops (Keeps-refl old))
+    (unread files path k held refused after old old (record { setting = g; holds = holds; clear = clear }) e stops (Keeps-refl old))
 
 -- ---- printing
 
-module _ (files : Files) (path : List ℕ) (k : ℕ) (held : List ℕ) (refused after old new : Option (List ℕ)) (g : Grammar) (report : Report) (holds : HoldsGrammar files path g) (clear : IsClear g k)
-    (is : IsReport g (take most_read held) report) (read : ReadsDocument held after) where
+module _ (files : Files) (path : List ℕ) (k : ℕ) (held : List ℕ) (refused after old new : Option (List ℕ)) (setting : Setting) (report : Report) (holds : HoldsGrammar files path setting.grammar) (clear : IsClear setting.grammar k)
+    (is : IsReport setting (take most_read held) report) (read : ReadsDocument held after) where
   prints : Prints files path k held (string_bytes report.text)
   prints = record {
-    grammar = g;
+    setting = setting;
     holds = holds;
     clear = clear;
     printed = is.printed;
-    only = λ other also. one_output g (one_way g k clear) (take most_read held) other (string_bytes report.text) also is.printed;
+    only = λ other also. one_output setting (one_way setting.grammar k clear) (take most_read held) other (string_bytes report.text) also is.printed;
   }
 
   told : (r : Result Verdict Stop) → IfOk r (λ v. v ≡ report.verdict) → OnOk r (Appends old new (string_bytes report.text)) → OnErr r ((r ≡ Err stop.Write) ⊎ (r ≡ Err stop.Memory)) →
@@ -97,11 +98,11 @@ module _ (files : Files) (path : List ℕ) (k : ℕ) (held : List ℕ) (refused 
       by_fault (inl write) = subst (CheckComesTo files path k held refused after old new) (sym write) (read, some)
       by_fault (inr memory) = subst (CheckComesTo files path k held refused after old new) (sym memory) (inr (read, some))
 
-pub works_after : (told_files : Option Files) (left after : Option (List ℕ)) (path : List ℕ) (k : ℕ) (refused old new : Option (List ℕ)) (g : Grammar) (report : Report) (r : Result Verdict Stop) →
-    IfSome told_files (λ files. HoldsGrammar files path g) → IsClear g k → IfSome left (λ held. IsReport g (take most_read held) report) → IfSome left (λ held. ReadsDocument held after) →
+pub works_after : (told_files : Option Files) (left after : Option (List ℕ)) (path : List ℕ) (k : ℕ) (refused old new : Option (List ℕ)) (setting : Setting) (report : Report) (r : Result Verdict Stop) →
+    IfSome told_files (λ files. HoldsGrammar files path setting.grammar) → IsClear setting.grammar k → IfSome left (λ held. IsReport setting (take most_read held) report) → IfSome left (λ held. ReadsDocument held after) →
     IfOk r (λ v. v ≡ report.verdict) → OnOk r (Appends old new (string_bytes report.text)) → OnErr r ((r ≡ Err stop.Write) ⊎ (r ≡ Err stop.Memory)) →
     OnErr r (WritesFront old new (string_bytes report.text)) → IfSome told_files (λ files. IfSome left (λ held. CheckComesTo files path k held refused after old new r))
-works_after None left after path k refused old new g report r holds clear is read verdict whole fault front = tt
-works_after (Some files) None after path k refused old new g report r holds clear is read verdict whole fault front = tt
-works_after (Some files) (Some held) after path k refused old new g report r holds clear is read verdict whole fault front =
-    told files path k held refused after old new g report holds clear is read r verdict whole fault front
+works_after None left after path k refused old new setting report r holds clear is read verdict whole fault front = tt
+works_after (Some files) None after path k refused old new setting report r holds clear is read verdict whole fault front = tt
+works_after (Some files) (Some held) after path k refused old new setting report r holds clear is read verdict whole fault front =
+    told files path k held refused after old new setting report holds clear is read r verdict whole fault front

@@ -3,6 +3,7 @@ use Rattle.std.specs.Prelude.{ℕ, ◌≡◌, ◌≢◌, ◌≤◌, ◌+◌, ◌
 use Rattle.std.specs.Io.KnownBytes.{Appends, Consumes, Keeps}
 use Rattle.lw_base.specs.declared.limits.TheConstants.{LONGEST_DOCUMENT}
 use Rattle.lw_grammar.specs.declared.grammar.Grammar as plain
+use Rattle.lw_link_rules.specs.Setting.{Setting}
 use Rattle.lw_io.specs.Whole.{TakesFewer, WritesFront}
 use Rattle.lw_load.specs.Loading.{Files}
 use Rattle.lw_lang.specs.Compiled.{HoldsGrammar, IsClear, Causes}
@@ -39,11 +40,11 @@ IsCaused told path k refused _ = Unit {0}
 module _ (files : Files) (path : List ℕ) (k : ℕ) (held : List ℕ) where
   -- the path holds a grammar that is built, and this and nothing else is what `check` prints for what the source held
   pub record Prints (output : List ℕ) : Type 0 where
-    pub grammar : plain.Grammar
-    pub holds : HoldsGrammar files path grammar
-    pub clear : IsClear grammar k
-    pub printed : Checked grammar (take most_read held) output
-    pub only : (other : List ℕ) → Checked grammar (take most_read held) other → other ≡ output
+    pub setting : Setting
+    pub holds : HoldsGrammar files path setting.grammar
+    pub clear : IsClear setting.grammar k
+    pub printed : Checked setting (take most_read held) output
+    pub only : (other : List ℕ) → Checked setting (take most_read held) other → other ≡ output
 
   -- what was written from before to after is a front of what is printed
   pub record WritesSome (old new : Option (List ℕ)) : Type 0 where
@@ -70,7 +71,7 @@ module _ (files : Files) (path : List ℕ) (k : ℕ) (held : List ℕ) where
     CheckComesTo (Err Limit) = ⊥
 
 -- a document of a grammar that is built is read to its end, and its line is written, where nothing fails and there is memory
-pub data CheckDone (g : plain.Grammar) (held : List ℕ) (old new : Option (List ℕ)) : ℕ → Type 0 where
-  whole : Checked g (take most_read held) ok_line → Appends old new ok_line → CheckDone g held old new 0
-  broken : (output : List ℕ) → Checked g (take most_read held) output → output ≢ ok_line → Appends old new output → CheckDone g held old new 1
-  no_memory : CheckDone g held old new 7
+pub data CheckDone (setting : Setting) (held : List ℕ) (old new : Option (List ℕ)) : ℕ → Type 0 where
+  whole : Checked setting (take most_read held) ok_line → Appends old new ok_line → CheckDone setting held old new 0
+  broken : (output : List ℕ) → Checked setting (take most_read held) output → output ≢ ok_line → Appends old new output → CheckDone setting held old new 1
+  no_memory : CheckDone setting held old new 7

@@ -2,6 +2,7 @@
 use Rattle.std.specs.Prelude.{ℕ, ◌≡◌, ◌⊎◌, List, Option, Result, Ok, Err}
 use Rattle.std.specs.Io.KnownBytes.{Appends, Keeps}
 use Rattle.lw_grammar.specs.declared.grammar.Grammar as plain
+use Rattle.lw_link_rules.specs.Setting.{Setting}
 use Rattle.lw_io.specs.Whole.{WritesFront}
 use Rattle.lw_load.specs.Loading.{Files}
 use Rattle.lw_lang.specs.Compiled.{HoldsGrammar, IsClear, Causes}
@@ -16,22 +17,22 @@ use Rattle.lw_commands.specs.declared.stop.Stop.{Stop}
 use Rattle.lw_commands.specs.declared.stop.Stop.TheVariants.{Words, Grammar, File, Read, Write, Memory, Frames, Limit}
 
 -- the lines of the summary of a workspace of so many documents that this grammar makes
-pub record Sums (g : plain.Grammar) (count : ℕ) (output : List ℕ) : Type 0 where
+pub record Sums (setting : Setting) (count : ℕ) (output : List ℕ) : Type 0 where
   pub documents : Documents
   pub lists : List Published
   pub summary : Summary
-  pub made : IsMade g count documents lists
-  pub sums : IsSummary g documents lists summary
+  pub made : IsMade setting count documents lists
+  pub sums : IsSummary setting documents lists summary
   pub says : output ≡ summary_text summary
 
 module _ (files : Files) (path : List ℕ) (k count : ℕ) where
   -- the path holds a grammar that is built, and these lines and no others are what `make` prints by it
   pub record SumsUp (output : List ℕ) : Type 0 where
-    pub grammar : plain.Grammar
-    pub holds : HoldsGrammar files path grammar
-    pub clear : IsClear grammar k
-    pub printed : Sums grammar count output
-    pub only : (other : List ℕ) → Sums grammar count other → other ≡ output
+    pub setting : Setting
+    pub holds : HoldsGrammar files path setting.grammar
+    pub clear : IsClear setting.grammar k
+    pub printed : Sums setting count output
+    pub only : (other : List ℕ) → Sums setting count other → other ≡ output
 
   module _ (refused old new : Option (List ℕ)) where
     -- a front of the lines was written, which may be all of them
@@ -52,6 +53,6 @@ module _ (files : Files) (path : List ℕ) (k count : ℕ) where
     MakeComesTo (Err Limit) = ⊥
 
 -- the lines are written by a grammar that is built, where nothing fails and there is memory
-pub data MakeDone (g : plain.Grammar) (count : ℕ) (old new : Option (List ℕ)) : ℕ → Type 0 where
-  whole : (output : List ℕ) → Sums g count output → Appends old new output → MakeDone g count old new 0
-  no_memory : MakeDone g count old new 7
+pub data MakeDone (setting : Setting) (count : ℕ) (old new : Option (List ℕ)) : ℕ → Type 0 where
+  whole : (output : List ℕ) → Sums setting count output → Appends old new output → MakeDone setting count old new 0
+  no_memory : MakeDone setting count old new 7

@@ -2,6 +2,7 @@
 use Rattle.std.specs.Prelude.{ℕ, ◌≡◌, ◌≢◌, ◌<◌, ◌⊎◌, List, Option, Result, Err, IfErr, IfSome, MatchOption}
 use Rattle.std.specs.Io.KnownBytes.{Keeps}
 use Rattle.lw_grammar.specs.declared.grammar.Grammar as plain
+use Rattle.lw_link_rules.specs.Setting.{Setting}
 use Rattle.lw_io.specs.Causes.{Rose}
 use Rattle.lw_commands.specs.declared.report.Verdict.{Verdict}
 use Rattle.lw_commands.specs.declared.stop.Stop.{Stop}
@@ -80,20 +81,20 @@ module _ (words : List (List ℕ)) (w : Work) where
 
   -- where the grammar is accepted and nothing fails, the document is read and its line is written, or memory was refused
   abbrev pub ChecksAll : ℕ → Type 0
-  ChecksAll code = (path : List ℕ) (k : ℕ) → IsCheck words path k → IfSome w.files (λ files. IfSome w.left.0 (λ held. (g : plain.Grammar) → IsAccepted files path k g →
-      NoneRose w.faults → CheckDone g held w.written.0 w.written.1 code))
+  ChecksAll code = (path : List ℕ) (k : ℕ) → IsCheck words path k → IfSome w.files (λ files. IfSome w.left.0 (λ held. (setting : Setting) → IsAccepted files path k setting.grammar →
+      NoneRose w.faults → CheckDone setting held w.written.0 w.written.1 code))
 
   -- and where the files that are named are texts, and what the source holds begins with a session that ends with `exit` behind `shutdown`, it is answered whole, or
   -- memory was refused
   abbrev pub ServesAll : ℕ → Type 0
-  ServesAll code = (path : List ℕ) (paths : List (List ℕ)) (k : ℕ) → IsServe words path paths k → IfSome w.files (λ files. IfSome w.left.0 (λ held. (g : plain.Grammar)
-      (named : List (List ℕ × List ℕ)) (taken : List ℕ) → IsAccepted files path k g → AreFileTexts files paths named → IsSession held taken → NoneRose w.faults →
-      ServeDone g files named taken w.written.0 w.written.1 code))
+  ServesAll code = (path : List ℕ) (paths : List (List ℕ)) (k : ℕ) → IsServe words path paths k → IfSome w.files (λ files. IfSome w.left.0 (λ held. (setting : Setting)
+      (named : List (List ℕ × List ℕ)) (taken : List ℕ) → IsAccepted files path k setting.grammar → AreFileTexts files paths named → IsSession held taken → NoneRose w.faults →
+      ServeDone setting files named taken w.written.0 w.written.1 code))
 
   -- and the summary is written, or memory was refused
   abbrev pub MakesAll : ℕ → Type 0
-  MakesAll code = (path : List ℕ) (count k : ℕ) → IsMake words path count k → IfSome w.files (λ files. (g : plain.Grammar) → IsAccepted files path k g →
-      NoneRose w.faults → MakeDone g count w.written.0 w.written.1 code)
+  MakesAll code = (path : List ℕ) (count k : ℕ) → IsMake words path count k → IfSome w.files (λ files. (setting : Setting) → IsAccepted files path k setting.grammar →
+      NoneRose w.faults → MakeDone setting count w.written.0 w.written.1 code)
 
   -- all that is claimed of a run
   pub record Runs (notes : Option (List ℕ) × Option (List ℕ)) (failures : ℕ × ℕ) (code : ℕ) : Type 0 where

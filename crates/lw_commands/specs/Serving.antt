@@ -4,6 +4,7 @@
 use Rattle.std.specs.Prelude.{ℕ, ◌≡◌, ◌<◌, ◌≤◌, ◌⊎◌, List, [], ◌∷◌, ◌++◌, All, length, take, true, false, Option, Some, None, Result, Ok, Err}
 use Rattle.std.specs.Io.KnownBytes.{Appends, Consumes, IsAtEnd, Keeps}
 use Rattle.lw_grammar.specs.declared.grammar.Grammar as plain
+use Rattle.lw_link_rules.specs.Setting.{Setting}
 use Rattle.lw_frame.specs.Frames.{bodies_of, fault_of, rest_of}
 use Rattle.lw_frame.specs.declared.fault.FrameFault.{FrameFault}
 use Rattle.lw_frame.specs.declared.limits.TheConstants.{LONGEST_SESSION}
@@ -33,7 +34,7 @@ abbrev pub count_through : ℕ → List (List Asked) → ℕ
 count_through before [] = before
 count_through before (asked ∷ later) = count_through (count_after before asked) later
 
-module _ (g : plain.Grammar) (told : Option Files) (named : List (List ℕ × List ℕ)) (before after old new : Option (List ℕ)) where
+module _ (setting : Setting) (told : Option Files) (named : List (List ℕ × List ℕ)) (before after old new : Option (List ℕ)) where
   -- Some bytes were taken from the source, and a part of the replies to the first of their bodies was written.
   pub record TalkedSome : Type 0 where
     pub taken : List ℕ
@@ -45,7 +46,7 @@ module _ (g : plain.Grammar) (told : Option Files) (named : List (List ℕ × Li
     pub ended : Ended
     pub consumed : Consumes before after taken
     pub parts : bodies_of taken ≡ bodies ++ others
-    pub serves : Serves g (beginning named) bodies asked standing replies ended
+    pub serves : Serves setting (beginning named) bodies asked standing replies ended
     pub written : WritesPart old new (framed replies)
     pub answered : All (AreAnswered told) asked
 
@@ -57,7 +58,7 @@ module _ (g : plain.Grammar) (told : Option Files) (named : List (List ℕ × Li
     pub asked : List (List Asked)
     pub replies : List Reply
     pub parts : bodies_of taken ≡ earlier ++ last ∷ []
-    pub serves : Serves g (beginning named) earlier asked standing replies No
+    pub serves : Serves setting (beginning named) earlier asked standing replies No
 
   -- how often the store had failed, before the session and behind it
   module _ (count : ℕ × ℕ) where
@@ -69,7 +70,7 @@ module _ (g : plain.Grammar) (told : Option Files) (named : List (List ℕ × Li
       pub replies : List Reply
       pub consumed : Consumes before after taken
       pub within : length taken ≤ LONGEST_SESSION
-      pub serves : Serves g (beginning named) (bodies_of taken) asked standing replies ended
+      pub serves : Serves setting (beginning named) (bodies_of taken) asked standing replies ended
       pub written : Appends old new (framed replies)
       pub answered : All (AreAnswered told) asked
       pub counted : count.1 ≡ count_through count.0 asked
@@ -125,20 +126,20 @@ CountsSession count outcome = (asked : List (List Asked)) × Counts TheStore (co
 
 -- By this grammar a session has one outcome, whatever texts were put and whatever bodies come: these are the only replies to them, by what the store answers, and where
 -- none of its reads failed, by its files.
-pub record HasOneOutcome (files : Files) (g : plain.Grammar) : Type 0 where
+pub record HasOneOutcome (files : Files) (setting : Setting) : Type 0 where
   pub by_answers : (named : List (List ℕ × List ℕ)) (bodies : List (List ℕ)) (asked : List (List Asked)) (t u : Standing) (p q : List Reply) (e f : Ended) →
-      Serves g (beginning named) bodies asked t p e → Serves g (beginning named) bodies asked u q f → (t ≡ u) × (p ≡ q) × (e ≡ f)
+      Serves setting (beginning named) bodies asked t p e → Serves setting (beginning named) bodies asked u q f → (t ≡ u) × (p ≡ q) × (e ≡ f)
   pub by_files : (named : List (List ℕ × List ℕ)) (bodies : List (List ℕ)) (asked others : List (List Asked)) (t u : Standing) (p q : List Reply) (e f : Ended) →
-      All (AreOfFiles files) asked → All (AreOfFiles files) others → Serves g (beginning named) bodies asked t p e → Serves g (beginning named) bodies others u q f →
+      All (AreOfFiles files) asked → All (AreOfFiles files) others → Serves setting (beginning named) bodies asked t p e → Serves setting (beginning named) bodies others u q f →
       (t ≡ u) × (p ≡ q) × (e ≡ f)
 
 -- a fact of the grammar that the path holds, which is built
-pub record OfGrammar (files : Files) (path : List ℕ) (k : ℕ) (Fact : plain.Grammar → Type 0) : Type 0 where
-  pub grammar : plain.Grammar
-  pub holds : HoldsGrammar files path grammar
-  pub clear : IsClear grammar k
-  pub only : HasOneOutcome files grammar
-  pub fact : Fact grammar
+pub record OfGrammar (files : Files) (path : List ℕ) (k : ℕ) (Fact : Setting → Type 0) : Type 0 where
+  pub setting : Setting
+  pub holds : HoldsGrammar files path setting.grammar
+  pub clear : IsClear setting.grammar k
+  pub only : HasOneOutcome files setting
+  pub fact : Fact setting
 
 -- a fact of the session that begins with the texts of the files at these paths
 abbrev pub WithNamed : Files → List (List ℕ) → (List (List ℕ × List ℕ) → Type 0) → Type 0
@@ -148,10 +149,10 @@ module _ (files : Files) (path : List ℕ) (paths : List (List ℕ)) (k : ℕ) (
   -- what was taken and written, and the cause of a fault of the grammar or of a file that is named
   abbrev pub ServeComesTo : Result Verdict Stop → Type 0
   ServeComesTo (Err (stop.Grammar found)) = Causes files path k refused found × Keeps before after × Keeps old new
-  ServeComesTo (Err (stop.File found)) = OfGrammar files path k (λ g. IsFirstUnread files paths found) × Keeps before after × Keeps old new
+  ServeComesTo (Err (stop.File found)) = OfGrammar files path k (λ setting. IsFirstUnread files paths found) × Keeps before after × Keeps old new
   ServeComesTo (Err stop.Memory) =
-      Keeps old new ⊎ OfGrammar files path k (λ g. WithNamed files paths (λ named. TalkedSome g (Some files) named before after old new))
-  ServeComesTo outcome = OfGrammar files path k (λ g. WithNamed files paths (λ named. Conversed g (Some files) named before after old new count outcome))
+      Keeps old new ⊎ OfGrammar files path k (λ setting. WithNamed files paths (λ named. TalkedSome setting (Some files) named before after old new))
+  ServeComesTo outcome = OfGrammar files path k (λ setting. WithNamed files paths (λ named. Conversed setting (Some files) named before after old new count outcome))
 
 -- These bytes are a session: what the source holds begins with them, there are fewer of them than may be taken, and by the phases of the gate the first `exit` among
 -- their bodies comes behind `shutdown`.
@@ -163,14 +164,14 @@ pub record IsSession (held taken : List ℕ) : Type 0 where
   pub ends : Lives unborn (bodies_of taken) last Clean
 
 -- the replies to these bytes of a session over the texts that are named, where the store answers by its files
-pub record AreReplies (g : plain.Grammar) (files : Files) (named : List (List ℕ × List ℕ)) (taken : List ℕ) (replies : List Reply) : Type 0 where
+pub record AreReplies (setting : Setting) (files : Files) (named : List (List ℕ × List ℕ)) (taken : List ℕ) (replies : List Reply) : Type 0 where
   pub standing : Standing
   pub asked : List (List Asked)
-  pub serves : Serves g (beginning named) (bodies_of taken) asked standing replies Clean
+  pub serves : Serves setting (beginning named) (bodies_of taken) asked standing replies Clean
   pub answered : All (AreOfFiles files) asked
 
 -- such a session is answered whole, by the only replies to it, where nothing fails and there is memory
-pub data ServeDone (g : plain.Grammar) (files : Files) (named : List (List ℕ × List ℕ)) (taken : List ℕ) (old new : Option (List ℕ)) : ℕ → Type 0 where
-  clean : (replies : List Reply) → AreReplies g files named taken replies → ((others : List Reply) → AreReplies g files named taken others → others ≡ replies) →
-      Appends old new (framed replies) → ServeDone g files named taken old new 0
-  no_memory : ServeDone g files named taken old new 7
+pub data ServeDone (setting : Setting) (files : Files) (named : List (List ℕ × List ℕ)) (taken : List ℕ) (old new : Option (List ℕ)) : ℕ → Type 0 where
+  clean : (replies : List Reply) → AreReplies setting files named taken replies → ((others : List Reply) → AreReplies setting files named taken others → others ≡ replies) →
+      Appends old new (framed replies) → ServeDone setting files named taken old new 0
+  no_memory : ServeDone setting files named taken old new 7

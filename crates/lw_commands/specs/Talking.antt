@@ -3,6 +3,7 @@ use Rattle.std.specs.Prelude.{ℕ, ◌≡◌, ◌<◌, ◌≤◌, ◌⊎◌, All
 use Rattle.std.specs.List.{flat_map}
 use Rattle.std.specs.Io.KnownBytes.{Appends, Consumes, IsAtEnd, Keeps}
 use Rattle.lw_grammar.specs.declared.grammar.Grammar as plain
+use Rattle.lw_link_rules.specs.Setting.{Setting}
 use Rattle.lw_frame.specs.Frames.{bodies_of, fault_of, frame_of}
 use Rattle.lw_frame.specs.Stream.{Stream, with_piece}
 use Rattle.lw_frame.specs.Wanted.{EndsWithin}
@@ -28,7 +29,7 @@ in_frames bodies = flat_map frame_of bodies
 
 -- All that was taken was answered, and that is no more than may be: the stream is open and without a fault, each of its bodies was handed out and answered, and all
 -- replies were written. The count of the store rose by what it answered alone.
-pub record IsUnderway (g : plain.Grammar) (told : Option Files) (named : List (List ℕ × List ℕ)) (before now old new : Option (List ℕ)) (count : ℕ × ℕ) (stream : Stream)
+pub record IsUnderway (setting : Setting) (told : Option Files) (named : List (List ℕ × List ℕ)) (before now old new : Option (List ℕ)) (count : ℕ × ℕ) (stream : Stream)
     (standing : Standing) : Type 0 where
   pub asked : List (List Asked)
   pub replies : List Reply
@@ -37,7 +38,7 @@ pub record IsUnderway (g : plain.Grammar) (told : Option Files) (named : List (L
   pub sound : fault_of stream.fed false ≡ None
   pub within : length stream.fed ≤ LONGEST_SESSION
   pub consumed : Consumes before now stream.fed
-  pub serves : Serves g (beginning named) (bodies_of stream.fed) asked standing replies No
+  pub serves : Serves setting (beginning named) (bodies_of stream.fed) asked standing replies No
   pub written : Appends old new (framed replies)
   pub answered : All (AreAnswered told) asked
   pub counted : count.1 ≡ count_through count.0 asked
@@ -52,12 +53,12 @@ pub data LosesPiece (before now : Option (List ℕ)) (s : Stream) : Stop → Typ
   unread : Keeps before now → LosesPiece before now s stop.Read
   lost : (bytes : List ℕ) → Consumes before now bytes → EndsWithin s.fed bytes → LosesPiece before now s stop.Memory
 
-module _ (g : plain.Grammar) (told : Option Files) (s : Standing) (old new : Option (List ℕ)) (count : ℕ × ℕ) where
+module _ (setting : Setting) (told : Option Files) (s : Standing) (old new : Option (List ℕ)) (count : ℕ × ℕ) where
   -- a body was answered, and all replies to it were written
   pub record Responds (body : List ℕ) (t : Standing) (ended : Ended) : Type 0 where
     pub asked : List Asked
     pub replies : List Reply
-    pub handles : Handles g s (message_of body) asked t replies ended
+    pub handles : Handles setting s (message_of body) asked t replies ended
     pub written : Appends old new (framed replies)
     pub answered : AreAnswered told asked
     pub counted : count.1 ≡ count_after count.0 asked
@@ -68,7 +69,7 @@ module _ (g : plain.Grammar) (told : Option Files) (s : Standing) (old new : Opt
     pub asked : List Asked
     pub replies : List Reply
     pub ended : Ended
-    pub handles : Handles g s (message_of body) asked standing replies ended
+    pub handles : Handles setting s (message_of body) asked standing replies ended
     pub written : WritesPart old new (framed replies)
     pub answered : AreAnswered told asked
     pub counted : count.1 ≡ count_after count.0 asked

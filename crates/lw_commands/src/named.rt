@@ -42,7 +42,7 @@ pub(crate) fn load_named<F: Store>(
     ensures loaded { OnOk result ((named : List (List ℕ × List ℕ)) × (session.new.standing ≡ beginning named) × IfSome (F.files store.old) (λ files.
         AreFileTexts files (map (λ path. path.now) paths.now) named)) }
     ensures unread { IfErr result (StopsAtFile (F.files store.old) (map (λ path. path.now) paths.now)) }
-    ensures grammar { session.new.grammar ≡ session.old.grammar }
+    ensures setting { session.new.setting ≡ session.old.setting }
     ensures files { F.files store.new ≡ F.files store.old }
     ensures store { Counts TheStore (F.count store.old) (F.count store.new) result }
 {
@@ -63,7 +63,7 @@ fn load_file<F: Store>(
     ensures loaded { OnOk result ((named : List (List ℕ × List ℕ)) → session.old.standing ≡ beginning named → (put : List ℕ × List ℕ) ×
         (session.new.standing ≡ beginning (named ++ put ∷ [])) × IfSome (F.files store.old) (λ files. IsFileText files path.now put)) }
     ensures unread { IfErr result (IsUnreadBy (F.files store.old) path.now) }
-    ensures grammar { session.new.grammar ≡ session.old.grammar }
+    ensures setting { session.new.setting ≡ session.old.setting }
     ensures files { F.files store.new ≡ F.files store.old }
     ensures store { Counts TheStore (F.count store.old) (F.count store.new) result }
 {
@@ -84,7 +84,7 @@ fn put(alloc: Global, session: &mut Session, path: &Name, text: Name) -> Result<
     ensures loaded { OnOk result ((named : List (List ℕ × List ℕ)) → session.old.standing ≡ beginning named →
         session.new.standing ≡ beginning (named ++ (address_of path.now, text) ∷ [])) }
     ensures fault { IfErr result (λ stop. stop ≡ Stop.Memory) }
-    ensures grammar { session.new.grammar ≡ session.old.grammar }
+    ensures setting { session.new.setting ≡ session.old.setting }
 {
     let address = address_of(alloc, path)?;
     match session.load_file(&address, text) {

@@ -4,6 +4,7 @@ ghost use Rattle.std.specs.List.{flat_map};
 ghost use Rattle.std.specs.Str.{IsUtf8};
 ghost use Rattle.lw_commands.specs.Checked.{diagnostic_line};
 ghost use Rattle.lw_commands.specs.Reports.{IsReport};
+ghost use Rattle.lw_lang.specs.Language.{setting_of};
 
 use crate::place::printed;
 use lw_alone::{Told, tell};
@@ -48,7 +49,7 @@ pub(crate) fn report_on(
     bytes: Vec<u8>,
 ) -> Result<Report, NoMemory>
     requires { length bytes.items ≤ LONGEST_DOCUMENT + 1 }
-    ensures { IfOk result (IsReport language.now.grammar bytes.items) }
+    ensures { IfOk result (IsReport (setting_of language.now) bytes.items) }
 {
     if bytes.len() > LONGEST_DOCUMENT {
         let shown = too_large(alloc)?;
@@ -63,7 +64,7 @@ pub(crate) fn report_on(
 fn report_text(alloc: Global, language: &Language, text: Name) -> Result<Report, NoMemory>
     requires short { length text ≤ LONGEST_DOCUMENT }
     requires utf8 { IsUtf8 text }
-    ensures { IfOk result (IsReport language.now.grammar text) }
+    ensures { IfOk result (IsReport (setting_of language.now) text) }
 {
     let Ok(document) = TextDoc::new(alloc, text) else {
         return Err(NoMemory);

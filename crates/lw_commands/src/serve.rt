@@ -68,7 +68,7 @@ fn converse<S: Source, K: Sink, F: Store, L: Ledger>(
     steps: &mut Steps<L>,
 ) -> Result<Verdict, Stop>
     requires { (named : List (List ℕ × List ℕ)) × (session.old.standing ≡ beginning named) }
-    ensures conversed { (named : List (List ℕ × List ℕ)) → session.old.standing ≡ beginning named → Conversed session.old.grammar (F.files store.old) named (S.left source.old) (S.left source.new) (K.written out.old) (K.written out.new) (F.count store.old, F.count store.new) result }
+    ensures conversed { (named : List (List ℕ × List ℕ)) → session.old.standing ≡ beginning named → Conversed session.old.setting (F.files store.old) named (S.left source.old) (S.left source.new) (K.written out.old) (K.written out.new) (F.count store.old, F.count store.new) result }
     ensures source { Counts TheSource (S.count source.old) (S.count source.new) result }
     ensures sink { Counts TheSink (K.count out.old) (K.count out.new) result }
 {
@@ -152,9 +152,9 @@ fn answer_next<K: Sink, F: Store, L: Ledger>(
     store: &mut F,
     steps: &mut Steps<L>,
 ) -> Result<Ended, Stop>
-    ensures answered { AnswersNext session.old.grammar (F.files store.old) session.old.standing (K.written out.old) (K.written out.new) (F.count store.old, F.count store.new) (next_answer reader.old.stream) session.new.standing result }
+    ensures answered { AnswersNext session.old.setting (F.files store.old) session.old.standing (K.written out.old) (K.written out.new) (F.count store.old, F.count store.new) (next_answer reader.old.stream) session.new.standing result }
     ensures stream { reader.new.stream ≡ after_next reader.old.stream }
-    ensures grammar { session.new.grammar ≡ session.old.grammar }
+    ensures setting { session.new.setting ≡ session.old.setting }
     ensures sink { Counts TheSink (K.count out.old) (K.count out.new) result }
     ensures files { F.files store.new ≡ F.files store.old }
 {
@@ -174,9 +174,9 @@ fn respond<K: Sink, F: Store, L: Ledger>(
     store: &mut F,
     steps: &mut Steps<L>,
 ) -> Result<Ended, Stop>
-    ensures answered { IfOk result (Responds session.old.grammar (F.files store.old) session.old.standing (K.written out.old) (K.written out.new) (F.count store.old, F.count store.new) body.now session.new.standing) }
-    ensures stopped { IfErr result (StopsResponding session.old.grammar (F.files store.old) session.old.standing (K.written out.old) (K.written out.new) (F.count store.old, F.count store.new) body.now) }
-    ensures grammar { session.new.grammar ≡ session.old.grammar }
+    ensures answered { IfOk result (Responds session.old.setting (F.files store.old) session.old.standing (K.written out.old) (K.written out.new) (F.count store.old, F.count store.new) body.now session.new.standing) }
+    ensures stopped { IfErr result (StopsResponding session.old.setting (F.files store.old) session.old.standing (K.written out.old) (K.written out.new) (F.count store.old, F.count store.new) body.now) }
+    ensures setting { session.new.setting ≡ session.old.setting }
     ensures sink { Counts TheSink (K.count out.old) (K.count out.new) result }
     ensures files { F.files store.new ≡ F.files store.old }
 {

@@ -10,6 +10,7 @@ ghost use Rattle.lw_commands.specs.Reports.{IsReport};
 ghost use Rattle.lw_commands.specs.Run.{ComesTo, Runs};
 ghost use Rattle.lw_command_line.specs.Words.{IsCommand, IsNoCommand, NamesFile};
 ghost use Rattle.lw_commands.specs.Stops.{Counts, EndsWith, code_of, TheSource, TheSink, TheStore, ThePatterns};
+ghost use Rattle.lw_lang.specs.Language.{setting_of};
 
 use crate::desk::Desk;
 use crate::making::make;
@@ -183,7 +184,7 @@ fn check<S: Source, K: Sink, F: Store, P: Patterns>(
 
 // The report on what the source holds.
 fn reported<S: Source>(alloc: Global, language: &Language, source: &mut S) -> Result<Report, Stop>
-    ensures report { IfOk result (λ report. IfSome (S.left source.old) (λ held. IsReport language.now.grammar (take most_read held) report)) }
+    ensures report { IfOk result (λ report. IfSome (S.left source.old) (λ held. IsReport (setting_of language.now) (take most_read held) report)) }
     ensures read { OnOk result (IfSome (S.left source.old) (λ held. ReadsDocument held (S.left source.new))) }
     ensures stopped { IfErr result (StopsReading (S.left source.old) (S.left source.new)) }
     ensures source { Counts TheSource (S.count source.old) (S.count source.new) result }

@@ -54,8 +54,8 @@ module _ (typing : Typing) (blank : Blank) (before : ℕ) (m : List Mark) (grows
 
       pub there_leads : LeadsInBlank typing trees address blank before m name → HasTarget (IsNumberBelow (grammar_of typing)) trees address tree (renamed_to name r)
       there_leads leads =
-          let g = grammar_of typing in
+          let setting = grammar_of typing in
           let refs_are : leads.tree.refs ≡ tree.refs =
-          same_refs g blank.text m (visible blank.tokens.items) blank.tokens.items leads.tree tree leads.is_tree is in
-          target_there g blank.text m (visible blank.tokens.items) blank.tokens.items leads.tree tree leads.is_tree is trees address leads.r r name
+          same_refs setting blank.text m (visible blank.tokens.items) blank.tokens.items leads.tree tree leads.is_tree is in
+          target_there setting blank.text m (visible blank.tokens.items) blank.tokens.items leads.tree tree leads.is_tree is trees address leads.r r name
           (same_Some leads.r r (sym leads.reference ∙ ap (λ (rs : List Reference). slice_get rs before) refs_are ∙ reference)) leads.target

@@ -7,6 +7,7 @@ use Rattle.lw_base.specs.declared.token.Token.{Token}
 use Rattle.lw_builder.specs.Built.{ArePartsOf}
 use Rattle.lw_gramlex.specs.Places.{IsPlace}
 use Rattle.lw_grammar.specs.declared.grammar.Grammar.{Grammar}
+use Rattle.lw_link_rules.specs.Setting.{Setting}
 use Rattle.lw_grammar.specs.Kinds.{Kinds}
 use Rattle.lw_reading.specs.Brackets.{Bracket, Root}
 use Rattle.lw_reading.specs.Follows.{FollowsMarks, MakesReference}
@@ -22,7 +23,7 @@ use Rattle.lw_reading.specs.Within.{StandInRow}
 use Rattle.lw_reading.proofs.OneTree.{one_follows, one_close}
 use Rattle.lw_reading.proofs.OneValue.{one_number_of_property}
 use Rattle.lw_reading.proofs.Rootable.{IsRootable}
-use Rattle.lw_link_rules.specs.Links.{IsNumberBelow}
+use Rattle.lw_link_rules.specs.Links.{rules_of}
 use Rattle.lw_scoping.specs.Links.{Trees}
 use Rattle.lw_grammar.specs.Marks.{Mark, Put, End, kinds_of}
 use Rattle.lw_grammar.specs.Sentences.{IsSentence}
@@ -72,29 +73,29 @@ one_naming g None (Some q) is was = absurd (is q.0 was)
 one_naming g (Some p) None is was = absurd (was p.0 is)
 one_naming g (Some p) (Some q) is was = ap (λ (n : ℕ). Some (record { 0 = n })) (one_number_of_property g (codes "name") p.0 q.0 is was)
 
-module _ (g : Grammar) (text : List ℕ) (m : List Mark) (seen tokens : List Token) where
-  module _ (tree other : Parts) (is : IsTree g text m seen tokens tree) (was : IsTree g text m seen tokens other) where
+module _ (setting : Setting) (text : List ℕ) (m : List Mark) (seen tokens : List Token) where
+  module _ (tree other : Parts) (is : IsTree setting.grammar text m seen tokens tree) (was : IsTree setting.grammar text m seen tokens other) where
     same_grown : is.grown ≡ was.grown
-    same_grown = same_root (one_follows g text is.follows was.follows refl refl)
+    same_grown = same_root (one_follows setting.grammar text is.follows was.follows refl refl)
 
     trees_are_alike : AreAlikeTrees 0 tree other
     trees_are_alike =
         trees_alike 0 is.grown was.grown (subst (λ (x : Grown). AreAlikeGrown 0 0 is.grown x) same_grown (grown_itself 0 0 is.grown)) tokens tokens tree other
-        (one_naming g tree.name other.name is.named was.named) is.parts was.parts
+        (one_naming setting.grammar tree.name other.name is.named was.named) is.parts was.parts
 
     pub same_refs : tree.refs ≡ other.refs
     same_refs = is.parts.refs ∙ ap (λ (x : Grown). refs 0 x) same_grown ∙ sym was.parts.refs
 
     pub target_there : (trees : Trees) (address : List ℕ) (r s : Reference) (name : List ℕ) → r ≡ s →
-        HasTarget (IsNumberBelow g) trees address tree (renamed_to name r) → HasTarget (IsNumberBelow g) trees address other (renamed_to name s)
+        HasTarget (rules_of setting) trees address tree (renamed_to name r) → HasTarget (rules_of setting) trees address other (renamed_to name s)
     target_there trees address r s name same leads =
-        (target_both (IsNumberBelow g) trees address 0 tree other r s trees_are_alike (ap (λ (q : Reference). q.owner) same) (ap (λ (q : Reference). q.want) same) name).0 leads
+        (target_both (rules_of setting) trees address 0 tree other r s trees_are_alike (ap (λ (q : Reference). q.owner) same) (ap (λ (q : Reference). q.want) same) name).0 leads
 
   -- a tree that is opened by marks that leave a root is whole
-  pub whole_opened : (tree : Parts) (x : Grown) → FollowsMarks g text m seen (Root x ∷ []) → IsOpenedTree g text m seen tokens tree → IsTree g text m seen tokens tree
+  pub whole_opened : (tree : Parts) (x : Grown) → FollowsMarks setting.grammar text m seen (Root x ∷ []) → IsOpenedTree setting.grammar text m seen tokens tree → IsTree setting.grammar text m seen tokens tree
   whole_opened tree x follows is =
-      let opened : is.brackets ≡ Root x ∷ [] = one_follows g text is.follows follows refl refl in
-      let same : is.grown ≡ x = one_close g text (subst (λ (bs : List Bracket). f.Closes g text seen bs is.grown) opened is.closes) f.root in record {
+      let opened : is.brackets ≡ Root x ∷ [] = one_follows setting.grammar text is.follows follows refl refl in
+      let same : is.grown ≡ x = one_close setting.grammar text (subst (λ (bs : List Bracket). f.Closes setting.grammar text seen bs is.grown) opened is.closes) f.root in record {
         grown = x;
         follows = follows;
         named = is.named;
@@ -125,8 +126,8 @@ marks_are next n =
     sym (append_assoc next.before (Put next.prop next.op next.value ∷ []) (End ∷ n))
     ∙ sym (append_assoc (next.before ++ (Put next.prop next.op next.value ∷ [])) (End ∷ []) n)
 
-module _ (g : Grammar) (of : Kinds) (front rest : List ℕ) (tokens others : List Token) (next : ReferenceNext) (makes : MakesReference next.op next.value)
-    (row : StandInRow front 0 (visible tokens)) (front_tree : Parts) (s : Reference) (before : IsFrontTree g of front tokens next front_tree s) where
+module _ (setting : Setting) (of : Kinds) (front rest : List ℕ) (tokens others : List Token) (next : ReferenceNext) (makes : MakesReference next.op next.value)
+    (row : StandInRow front 0 (visible tokens)) (front_tree : Parts) (s : Reference) (before : IsFrontTree setting of front tokens next front_tree s) where
   abbrev pub Moved : List Token
   Moved = map (moved_by (length front)) others
 
@@ -134,28 +135,28 @@ module _ (g : Grammar) (of : Kinds) (front rest : List ℕ) (tokens others : Lis
   seen_are =
       filter-append (λ (t : Token). not t.hidden) tokens Moved ∙ ap (λ (ts : List Token). ts ++ visible Moved) (sym (append-nil (visible tokens)))
 
-  place_there : IsReferencePlace g (front ++ rest) next (visible tokens) (length front_tree.refs)
+  place_there : IsReferencePlace setting.grammar (front ++ rest) next (visible tokens) (length front_tree.refs)
   place_there =
-      place_moves g front (front ++ rest) next (visible tokens) (visible tokens) (length front_tree.refs)
+      place_moves setting.grammar front (front ++ rest) next (visible tokens) (visible tokens) (length front_tree.refs)
       (subst (λ (text : List ℕ). AreSameTokens text (front ++ rest) (visible tokens) (visible tokens)) (append-nil front) (front_kept front [] rest (visible tokens) row))
-      (front_counts g front of tokens next front_tree s before)
+      (front_counts setting front of tokens next front_tree s before)
 
-  pub blank_reference : (n : List Mark) (all : List Token) (tree : Parts) → IsTree g (front ++ rest) (marks_with next [] ++ n) (visible (tokens ++ Moved)) all tree →
+  pub blank_reference : (n : List Mark) (all : List Token) (tree : Parts) → IsTree setting.grammar (front ++ rest) (marks_with next [] ++ n) (visible (tokens ++ Moved)) all tree →
       (r : Reference) × (slice_get tree.refs (length front_tree.refs) ≡ Some r)
   blank_reference n all tree is =
       let found =
-      stands_whole g (front ++ rest) next makes (visible tokens) [] (length front_tree.refs) place_there n (visible Moved) all tree
-      (subst (λ (ts : List Token). IsTree g (front ++ rest) (marks_with next [] ++ n) ts all tree) seen_are is) in
+      stands_whole setting.grammar (front ++ rest) next makes (visible tokens) [] (length front_tree.refs) place_there n (visible Moved) all tree
+      (subst (λ (ts : List Token). IsTree setting.grammar (front ++ rest) (marks_with next [] ++ n) ts all tree) seen_are is) in
       (found.0, found.1)
 
-  pub blank_grows : IsRootable g → (ks : List ℕ) (n : List Mark) (name : Option PropId) → IsNamingProperty g name → IsSentence g of (marks_with next ks ++ n) →
+  pub blank_grows : IsRootable setting.grammar → (ks : List ℕ) (n : List Mark) (name : Option PropId) → IsNamingProperty setting.grammar name → IsSentence setting.grammar of (marks_with next ks ++ n) →
       ReadMarks (visible tokens) next.before → kinds_of n ≡ kinds (visible others) →
-      GrowsRoot g (front ++ rest) (marks_with next [] ++ n) (visible (tokens ++ Moved))
+      GrowsRoot setting.grammar (front ++ rest) (marks_with next [] ++ n) (visible (tokens ++ Moved))
   blank_grows root ks n name named sentence reads_front kinds_are =
       let found =
-      whole_blank g of (front ++ rest) root next ks n (visible tokens) makes sentence reads_front (visible Moved) [] name named
+      whole_blank setting.grammar of (front ++ rest) root next ks n (visible tokens) makes sentence reads_front (visible Moved) [] name named
       (moved_kinds (length front) others ∙ sym kinds_are) in (
         found.1.grown,
-        subst (λ (ts : List Token). FollowsMarks g (front ++ rest) (marks_with next [] ++ n) ts (Root found.1.grown ∷ []))
+        subst (λ (ts : List Token). FollowsMarks setting.grammar (front ++ rest) (marks_with next [] ++ n) ts (Root found.1.grown ∷ []))
             (sym (filter-append (λ (t : Token). not t.hidden) tokens Moved)) found.1.follows,
       )

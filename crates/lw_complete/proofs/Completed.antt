@@ -4,7 +4,7 @@ use Rattle.lw_base.specs.declared.limits.TheConstants.{LONGEST_DOCUMENT}
 use Rattle.lw_base.specs.declared.token.Token.{Token}
 use Rattle.std.proofs.lemmas.List.Elements.{All-weaker}
 use Rattle.lw_gramlex.specs.Places.{IsPlace}
-use Rattle.lw_grammar.specs.declared.grammar.Grammar.{Grammar}
+use Rattle.lw_link_rules.specs.Setting.{Setting}
 use Rattle.lw_grammar.specs.Kinds.{AreKinds, Kinds}
 use Rattle.lw_grammar.proofs.KindLemmas.{one_kinds}
 use Rattle.lw_lexer.specs.TokenPlaces.{IsTokenPlace}
@@ -23,13 +23,13 @@ use Rattle.lw_complete.specs.declared.typing.Typing.{Typing}
 use Rattle.lw_complete.specs.Typing.{CutsBehind, IsTypedBy, grammar_of}
 use Rattle.lw_complete.proofs.ItemsOrdered.{of_mapped}
 
-module _ (g : Grammar) (texts : Texts) (trees : Trees) (are_trees : AreTreesOfTexts g texts trees) (address text : List ℕ) (offset : ℕ) (of : Kinds)
-    (are_kinds : AreKinds g of) (lexicon : Lexicon) (is_lexicon : IsLexicon g of lexicon) where
+module _ (setting : Setting) (texts : Texts) (trees : Trees) (are_trees : AreTreesOfTexts setting.grammar texts trees) (address text : List ℕ) (offset : ℕ) (of : Kinds)
+    (are_kinds : AreKinds setting.grammar of) (lexicon : Lexicon) (is_lexicon : IsLexicon setting.grammar of lexicon) where
   abbrev pub IsOfferHere : Offer → Type 0
-  IsOfferHere = IsOffer g of lexicon trees address text offset
+  IsOfferHere = IsOffer setting of lexicon trees address text offset
 
   -- nothing, where there is no offer
-  pub nothing : ((x : Offer) → ¬ IsOfferHere x) → AreOffers g texts address text offset []
+  pub nothing : ((x : Offer) → ¬ IsOfferHere x) → AreOffers setting texts address text offset []
   nothing none = record {
     of = of;
     are_kinds = are_kinds;
@@ -52,8 +52,8 @@ module _ (g : Grammar) (texts : Texts) (trees : Trees) (are_trees : AreTreesOfTe
 
     pub all_offers : (tokens : List Token) → length text ≤ LONGEST_DOCUMENT → IsCut lexicon front tokens →
         ((others : List Token) → IsCut lexicon front others → others ≡ tokens) → (offers : List Offer) →
-        ((x : Offer) → Contains offers x ↔ IsOffered g of lexicon trees address front rest tokens word x) → AllPairs OfferPrecedes offers →
-        AreOffers g texts address text offset offers
+        ((x : Offer) → Contains offers x ↔ IsOffered setting of lexicon trees address front rest tokens word x) → AllPairs OfferPrecedes offers →
+        AreOffers setting texts address text offset offers
     all_offers tokens short cut only offers exact ordered = record {
       of = of;
       are_kinds = are_kinds;
@@ -65,23 +65,23 @@ module _ (g : Grammar) (texts : Texts) (trees : Trees) (are_trees : AreTreesOfTe
       ordered = ordered;
     }
       where
-        there : (x : Offer) → IsOffered g of lexicon trees address front rest tokens word x → IsOfferHere x
+        there : (x : Offer) → IsOffered setting of lexicon trees address front rest tokens word x → IsOfferHere x
         there x offered = record { short = short; front = front; word = word; rest = rest; typed = typed; tokens = tokens; cut = cut; offered = offered }
 
-        here : (x : Offer) → IsOfferHere x → IsOffered g of lexicon trees address front rest tokens word x
+        here : (x : Offer) → IsOfferHere x → IsOffered setting of lexicon trees address front rest tokens word x
         here x is =
             let (same_front, same_word, same_rest) = one_word_typed text offset is.front is.word is.rest front word rest is.typed typed in
             let same_tokens : is.tokens ≡ tokens = only is.tokens (subst (λ (f : List ℕ). IsCut lexicon f is.tokens) same_front is.cut) in
-            subst (λ (ts : List Token). IsOffered g of lexicon trees address front rest ts word x) same_tokens
-            (subst (λ (w : List ℕ). IsOffered g of lexicon trees address front rest is.tokens w x) same_word
-            (subst (λ (r : List ℕ). IsOffered g of lexicon trees address front r is.tokens is.word x) same_rest
-            (subst (λ (f : List ℕ). IsOffered g of lexicon trees address f is.rest is.tokens is.word x) same_front is.offered)))
+            subst (λ (ts : List Token). IsOffered setting of lexicon trees address front rest ts word x) same_tokens
+            (subst (λ (w : List ℕ). IsOffered setting of lexicon trees address front rest is.tokens w x) same_word
+            (subst (λ (r : List ℕ). IsOffered setting of lexicon trees address front r is.tokens is.word x) same_rest
+            (subst (λ (f : List ℕ). IsOffered setting of lexicon trees address f is.rest is.tokens is.word x) same_front is.offered)))
 
     -- the same of what was answered
     pub answered : {X E : Type 0} (tokens : List Token) → length text ≤ LONGEST_DOCUMENT → IsCut lexicon front tokens →
         ((others : List Token) → IsCut lexicon front others → others ≡ tokens) → (offers : X → List Offer) (r : Result X E) →
-        IfOk r (λ items. (x : Offer) → Contains (offers items) x ↔ IsOffered g of lexicon trees address front rest tokens word x) →
-        IfOk r (λ items. AllPairs OfferPrecedes (offers items)) → IfOk r (λ items. AreOffers g texts address text offset (offers items))
+        IfOk r (λ items. (x : Offer) → Contains (offers items) x ↔ IsOffered setting of lexicon trees address front rest tokens word x) →
+        IfOk r (λ items. AllPairs OfferPrecedes (offers items)) → IfOk r (λ items. AreOffers setting texts address text offset (offers items))
     answered tokens short cut only offers (Ok items) exact ordered = all_offers tokens short cut only (offers items) exact ordered
     answered tokens short cut only offers (Err e) exact ordered = tt
 
@@ -98,11 +98,11 @@ typed_as {text} {front} {word} {f} {w} {r} {offset} typed same_front same_word s
     (subst (λ (front : List ℕ). IsTypedAt text offset front w r) (sym same_front) typed))
 
 -- what is offered in place of the word are these keywords and these names
-module _ (g : Grammar) (of : Kinds) (lexicon : Lexicon) (trees : Trees) (address front rest word : List ℕ) (tokens : List Token) (keywords names : List (List ℕ))
-    (keywords_are : (text : List ℕ) → Contains keywords text ↔ (BeginsBy word text × IsKeywordNext g of lexicon front tokens text))
-    (names_are : (name : List ℕ) → Contains names name ↔ (BeginsBy word name × IsNameNext g of lexicon trees address front rest tokens name)) where
+module _ (setting : Setting) (of : Kinds) (lexicon : Lexicon) (trees : Trees) (address front rest word : List ℕ) (tokens : List Token) (keywords names : List (List ℕ))
+    (keywords_are : (text : List ℕ) → Contains keywords text ↔ (BeginsBy word text × IsKeywordNext setting.grammar of lexicon front tokens text))
+    (names_are : (name : List ℕ) → Contains names name ↔ (BeginsBy word name × IsNameNext setting of lexicon trees address front rest tokens name)) where
   abbrev Offers : Offer → Type 0
-  Offers = IsOffered g of lexicon trees address front rest tokens word
+  Offers = IsOffered setting of lexicon trees address front rest tokens word
 
   pub offered : (x : Offer) → Contains (map keyword_offer keywords) x ⊎ Contains (map name_offer names) x → Offers x
   offered x (inl has) =

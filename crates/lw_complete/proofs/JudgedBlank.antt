@@ -19,7 +19,7 @@ use Rattle.lw_reading.specs.Reading.{Reads}
 use Rattle.lw_reading.specs.Reading as reading
 use Rattle.lw_reading.specs.declared.parsed.Parsed.TheVariants.{Whole}
 use Rattle.lw_lexer.specs.Recut.{IsCrossed, added, added_behind}
-use Rattle.lw_link_rules.specs.Links.{IsNumberBelow}
+use Rattle.lw_link_rules.specs.Links.{rules_of}
 use Rattle.lw_scoping.specs.Links.{Trees}
 use Rattle.lw_grammar.specs.Marks.{Mark}
 use Rattle.lw_matching.proofs.PartedLemmas.{cut_parted, whole_cut}
@@ -98,16 +98,16 @@ over (Some next) P (inl none) = absurd (not_none none)
 over (Some next) P (inr (other, same, is)) = subst P (sym (same_Some next other same)) is
 
 module _ (of : Kinds) (lexicon : Lexicon) (typing : Typing) (typed : IsTypedBy of lexicon typing) (one_way : IsReadOneWay (grammar_of typing)) where
-  abbrev g : Grammar
-  g = grammar_of typing
+  abbrev setting : Grammar
+  setting = grammar_of typing
 
   apart : AreKeywords lexicon.keywords
-  apart = told_apart g of lexicon one_way typed.are_kinds typed.is_lexicon
+  apart = told_apart setting.grammar of lexicon one_way typed.are_kinds typed.is_lexicon
 
   pub crossed : (trees : Trees) (address name : List ℕ) → IsCrossed lexicon (typing.front.now ++ name ++ typing.rest.now) (length (typing.front.now ++ name)) →
       IsJudgement typing trees address name NoReference
   crossed trees address name is tree r stands =
-      none_crossed g of lexicon apart typed.are_kinds typed.is_lexicon typing.front.now name typing.rest.now is.at is.tokens is.found is.cut is.before is.is_next
+      none_crossed setting.grammar of lexicon apart typed.are_kinds typed.is_lexicon typing.front.now name typing.rest.now is.at is.tokens is.found is.cut is.before is.is_next
       (over is.found (λ (next : Next). length (typing.front.now ++ name) < is.at + next.bytes) is.crosses) tree r stands
 
   -- ---- those that are
@@ -147,14 +147,14 @@ module _ (of : Kinds) (lexicon : Lexicon) (typing : Typing) (typed : IsTypedBy o
 
     module _ (tasks : List Task) where
       abbrev GivesThere : ReferenceStart → Type 0
-      GivesThere start = EndsSome (PlacesGive g of tasks (start.value ∷ [])) (kinds (visible placed))
+      GivesThere start = EndsSome (PlacesGive setting.grammar of tasks (start.value ∷ [])) (kinds (visible placed))
 
       given_there : (start : ReferenceStart) → GivesKinds of tasks typing written start → GivesThere start
       given_there start =
-          subst (EndsSome (PlacesGive g of tasks (start.value ∷ []))) (sym (kinds_there of lexicon typing written is))
+          subst (EndsSome (PlacesGive setting.grammar of tasks (start.value ∷ []))) (sym (kinds_there of lexicon typing written is))
 
       given_here : (start : ReferenceStart) → GivesThere start → GivesKinds of tasks typing written start
-      given_here start = subst (EndsSome (PlacesGive g of tasks (start.value ∷ []))) (kinds_there of lexicon typing written is)
+      given_here start = subst (EndsSome (PlacesGive setting.grammar of tasks (start.value ∷ []))) (kinds_there of lexicon typing written is)
 
       module _ (trees : Trees) (address : List ℕ) where
         abbrev Judged : Judgement → Type 0
@@ -169,14 +169,14 @@ module _ (of : Kinds) (lexicon : Lexicon) (typing : Typing) (typed : IsTypedBy o
           start = one.start.now
 
           abbrev LeadsBy : Parts → Reference → Type 0
-          LeadsBy blank r = HasTarget (IsNumberBelow g) trees address blank (renamed_to name r)
+          LeadsBy blank r = HasTarget (rules_of setting) trees address blank (renamed_to name r)
 
           by_tree : (has : HasBlankTree of lexicon tasks typing comes.next start) →
               ((tree : Parts) × (found : Reference) × StandsWhole typing trees address name tree found)
               × (LeadsWhole typing trees address name ↔ LeadsBy has.tree has.r)
           by_tree has =
               let blank = has.is_tree in
-              judged g of lexicon apart one_way.sentences typed.are_kinds typed.is_lexicon typing.front.now name typing.rest.now typing.tokens.now placed blank.others
+              judged setting of lexicon apart one_way.sentences typed.are_kinds typed.is_lexicon typing.front.now name typing.rest.now typing.tokens.now placed blank.others
               (around blank.others blank.cut) comes.next has.front_tree has.tree has.front_r has.r meets.short blank.cut comes.sound.at.comes has.is_front blank
               (comes.joins (kinds (visible placed)) blank.after (given_there start gives) has.behind) says.wanted says.rule says.refers says.means takes.spans takes.some
               trees address
@@ -203,12 +203,12 @@ module _ (of : Kinds) (lexicon : Lexicon) (typing : Typing) (typed : IsTypedBy o
         pub none_told : (known : List Known) → AreTried of lexicon tasks typing trees address known → name ≢ [] →
             ((one : Known) → Contains known one → ¬ MayRead of tasks typing written one) → Judged NoReference
         none_told known tried some none tree r stands =
-            let so = read_so g of lexicon text tree typed.are_kinds typed.is_lexicon stands.reads in
+            let so = read_so setting.grammar of lexicon text tree typed.are_kinds typed.is_lexicon stands.reads in
             let (others, cut) = behind_cut so.tokens so.cut in
-            no_sentence g of lexicon apart typed.are_kinds typed.is_lexicon typing.front.now name typing.rest.now typing.tokens.now placed others (around others cut) tree r
+            no_sentence setting.grammar of lexicon apart typed.are_kinds typed.is_lexicon typing.front.now name typing.rest.now typing.tokens.now placed others (around others cut) tree r
             stands some
             (λ next after makes kinds_are sentence goes_on.
-            let comes : ComesNext g of typing.tokens.now next =
+            let comes : ComesNext setting of typing.tokens.now next =
             record { kinds_are = kinds_are; makes = makes; some_kinds = kinds (visible placed); after = after; sentence = sentence } in
             let at : BeginsAt of tasks typing known next (kinds (visible placed)) after = tried.all next comes (kinds (visible placed)) after sentence in
             let blank = All-contains (IsBlankKnown of lexicon tasks typing trees address) known at.one tried.blank at.among in
@@ -217,9 +217,9 @@ module _ (of : Kinds) (lexicon : Lexicon) (typing : Typing) (typed : IsTypedBy o
 
         pub not_taken : name ≢ [] → ¬ TakesAll typing written → Judged NoReference
         not_taken some not tree r stands =
-            let so = read_so g of lexicon text tree typed.are_kinds typed.is_lexicon stands.reads in
+            let so = read_so setting.grammar of lexicon text tree typed.are_kinds typed.is_lexicon stands.reads in
             let (others, cut) = behind_cut so.tokens so.cut in
-            none_spans g of lexicon apart typed.are_kinds typed.is_lexicon typing.front.now name typing.rest.now typing.tokens.now placed others (around others cut) tree r
+            none_spans setting.grammar of lexicon apart typed.are_kinds typed.is_lexicon typing.front.now name typing.rest.now typing.tokens.now placed others (around others cut) tree r
             stands (λ spans. not (record { some = some_token spans; spans = spans }))
           where
             some_token : span_of_tokens (visible placed) ≡ record { start = length typing.front.now; end = length typing.front.now + length name } → visible placed ≢ []

@@ -3,13 +3,14 @@ use Rattle.std.proofs.Common.{◌≡◌, ◌+◌, ◌++◌, ℕ, List, Bool, tru
 use Rattle.std.specs.Str.{bytes_eq}
 use Rattle.std.proofs.lemmas.Option.{same_Some}
 use Rattle.lw_grammar.specs.declared.grammar.Grammar.{Grammar}
+use Rattle.lw_link_rules.specs.Setting.{Setting}
 use Rattle.lw_places.specs.Targets.{HasTarget, having_tree}
 use Rattle.lw_reading.specs.Laws.{IsReadOneWay, IsSameReading}
 use Rattle.lw_reading.specs.Laws as law
 use Rattle.lw_reading.specs.Reading.{Reads}
 use Rattle.lw_reading.specs.declared.parsed.Parsed.TheVariants.{Broken, Whole}
 use Rattle.lw_reading.proofs.OneReading.{one_reading}
-use Rattle.lw_link_rules.specs.Links.{IsNumberBelow}
+use Rattle.lw_link_rules.specs.Links.{IsNumberBelow, rules_of}
 use Rattle.lw_link_rules.proofs.SameTables.{link_over}
 use Rattle.lw_scoping.specs.Alike.{AreAlike, HaveSameTables, both, neither}
 use Rattle.lw_scoping.specs.Links.{FitsThere, Trees}
@@ -52,13 +53,13 @@ fits_over all below r place (tree, is, has, (type, named, under)) =
     let (other, there, same) = alike_in (all place.0) is in
     (other, there, subst (λ (xs : List ℕ). Contains xs place.1) (same_exports same) has, (type, same_named same named, under))
 
-pub target_over : (g : Grammar) (trees : Trees) (address : List ℕ) (tree other : Parts) (r : Reference) → SameTables tree other →
-    HasTarget (IsNumberBelow g) trees address tree r → HasTarget (IsNumberBelow g) trees address other r
-target_over g trees address tree other r same (target, leads) = (
+pub target_over : (setting : Setting) (trees : Trees) (address : List ℕ) (tree other : Parts) (r : Reference) → SameTables tree other →
+    HasTarget (rules_of setting) trees address tree r → HasTarget (rules_of setting) trees address other r
+target_over setting trees address tree other r same (target, leads) = (
   target,
-  link_over (IsNumberBelow g) _ _ address tree other r (λ n own. same_own same (IsNumberBelow g) r own)
-      (fits_over (having_alike trees address same) (IsNumberBelow g) r)
-      (fits_over (having_alike trees address (turned same)) (IsNumberBelow g) r) (Some target) leads,
+  link_over (rules_of setting) _ _ address tree other r (λ n own. same_own same (IsNumberBelow setting.grammar) r own)
+      (fits_over (having_alike trees address same) (IsNumberBelow setting.grammar) r)
+      (fits_over (having_alike trees address (turned same)) (IsNumberBelow setting.grammar) r) (Some target) leads,
 )
 
 -- the trees of one text have the same tables

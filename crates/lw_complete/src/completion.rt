@@ -12,6 +12,7 @@ ghost use Rattle.lw_scoping.specs.Links.{Trees};
 ghost use Rattle.lw_tokens.specs.Lexicon.{Lexicon};
 ghost use Rattle.lw_complete.specs.Items.{TakesThePlace, item_of, items_of, offer_of};
 ghost use Rattle.lw_complete.specs.Typing.{IsTypedAmong, IsTypedBy, grammar_of};
+ghost use Rattle.lw_lang.specs.Language.{setting_of};
 
 use crate::item::{Item, KEYWORD_ITEM, REFERENCE_ITEM};
 use crate::keywords::keywords;
@@ -47,7 +48,7 @@ pub fn complete(
     requires boundary { IsCharBoundary text.now off }
     requires one_way { IsReadOneWay language.now.grammar }
     ensures offers { (texts : Texts) (trees : Trees) (address : List ℕ) → AreTreesOfTexts language.now.grammar texts trees → IsIndexOf trees index.now →
-        IsNumberAt index.now doc.0 address → IfOk result (λ items. AreOffers language.now.grammar texts address text.now off (map offer_of items.items)) }
+        IsNumberAt index.now doc.0 address → IfOk result (λ items. AreOffers (setting_of language.now) texts address text.now off (map offer_of items.items)) }
     ensures spans { IfOk result (λ items. All (λ item. (front : List ℕ) × (word : List ℕ) × (rest : List ℕ) × IsTypedAt text.now off front word rest
         × TakesThePlace (length front) off item) items.items) }
 {

@@ -1,7 +1,7 @@
 -- A session ends as its phases say, and they say one end of any bodies.
 use Rattle.std.proofs.Common.{◌≡◌, ◌≢◌, ℕ, List, [], ◌∷◌, ◌++◌, Bool, true, false, not, ◌&&◌, Some, None, inl, inr, ◌⊎◌, sym, refl, ap, ◌∙◌, subst, subst₂}
 use Rattle.std.specs.Prelude.{if◌then◌else◌}
-use Rattle.lw_grammar.specs.declared.grammar.Grammar.{Grammar}
+use Rattle.lw_link_rules.specs.Setting.{Setting}
 use Rattle.lw_rpc.specs.Messages.{message_of}
 use Rattle.lw_rpc.specs.declared.message.Id.{Id}
 use Rattle.lw_rpc.specs.declared.message.Message.{Message}
@@ -89,17 +89,17 @@ module _ (phase : Phase) where
 
 -- ---- sessions
 
-module _ (g : Grammar) where
+module _ (setting : Setting) where
   -- the phase behind a message, and whether the session is over, are those of the gate
   abbrev IsOfGate : Standing → Message → Standing → Ended → Type 0
   IsOfGate s m t ended = (t.phase ≡ phase_behind s.phase (gate s.phase m)) × (ended ≡ end_behind (gate s.phase m))
 
-  of_gate : (s : Standing) (m : Message) (asked : List Asked) (t : Standing) (replies : List Reply) (ended : Ended) → Answered g s m asked t replies ended →
+  of_gate : (s : Standing) (m : Message) (asked : List Asked) (t : Standing) (replies : List Reply) (ended : Ended) → Answered setting s m asked t replies ended →
       IsOfGate s m t ended
   of_gate s m asked t replies ended (stops is) = (sym (ap (phase_behind s.phase) is), sym (ap end_behind is))
   of_gate s m asked t replies ended (passes is effect) = (sym (ap (phase_behind s.phase) is), sym (ap end_behind is))
 
-  of_gate_built : (s : Standing) (m : Message) (asked : List Asked) (t : Standing) (replies : List Reply) (ended : Ended) → Handles g s m asked t replies ended →
+  of_gate_built : (s : Standing) (m : Message) (asked : List Asked) (t : Standing) (replies : List Reply) (ended : Ended) → Handles setting s m asked t replies ended →
       IsOfGate s m t ended
   of_gate_built s m asked t replies ended (unbuilt answered before) = of_gate s m asked t replies ended answered
   of_gate_built s m asked t replies ended (built {t = u} {replies = r} answered since builds) = of_gate s m asked u r ended answered
@@ -116,7 +116,7 @@ module _ (g : Grammar) where
   no_exit s m stays is = no_end s.phase No (stays ∙ ap (λ n. end_behind (gate s.phase n)) is) refl
 
   -- a session ends as its phases say
-  pub lives : (s t : Standing) (bodies : List (List ℕ)) (asked : List (List Asked)) (replies : List Reply) (ended : Ended) → Serves g s bodies asked t replies ended →
+  pub lives : (s t : Standing) (bodies : List (List ℕ)) (asked : List (List Asked)) (replies : List Reply) (ended : Ended) → Serves setting s bodies asked t replies ended →
       Lives s.phase bodies t.phase ended
   lives s t bodies asked replies ended waits = ending.waits
   lives s t bodies asked replies ended (ends {body = b} {others = bs} {asked = h} does over) =
@@ -146,9 +146,9 @@ lives_more phase last bodies others ended over (ending.exits is) = ending.exits 
 lives_more phase last bodies others ended over (ending.goes_on {body = b} {others = bs} other rest) =
     ending.goes_on other (lives_more (phase_behind phase (gate phase (message_of b))) last bs others ended over rest)
 
-module _ (g : Grammar) where
+module _ (setting : Setting) where
   pub serves_more : (s t : Standing) (bodies others : List (List ℕ)) (asked : List (List Asked)) (replies : List Reply) (ended : Ended) → ended ≢ No →
-      Serves g s bodies asked t replies ended → Serves g s (bodies ++ others) asked t replies ended
+      Serves setting s bodies asked t replies ended → Serves setting s (bodies ++ others) asked t replies ended
   serves_more s t bodies others asked replies ended over waits = absurd (over refl)
   serves_more s t bodies others asked replies ended over (ends does is) = ends does is
   serves_more s t bodies others asked replies ended over (goes_on {t = v} {others = bs} {more = hs} {replies = r} does rest) =
@@ -156,15 +156,15 @@ module _ (g : Grammar) where
 
   -- so it may be left out
   pub serves_less : (bodies others : List (List ℕ)) (s t : Standing) (last : Phase) (end : Ended) (asked : List (List Asked)) (replies : List Reply) (ended : Ended) →
-      end ≢ No → Lives s.phase bodies last end → Serves g s (bodies ++ others) asked t replies ended → Serves g s bodies asked t replies ended
+      end ≢ No → Lives s.phase bodies last end → Serves setting s (bodies ++ others) asked t replies ended → Serves setting s bodies asked t replies ended
   serves_less [] others s t last end asked replies ended over lives serves = absurd (over (one_end s.phase last s.phase [] end No lives ending.waits).1)
   serves_less (b ∷ bs) others s t last end asked replies ended over lives (ends does is) = ends does is
   serves_less (b ∷ bs) others s t last end asked replies ended over (ending.exits is) (goes_on {t = v} {asked = h} {first = f} does rest) =
-      absurd (no_exit g s (message_of b) (of_gate_built g s (message_of b) h v f No does).1 is)
+      absurd (no_exit setting s (message_of b) (of_gate_built setting s (message_of b) h v f No does).1 is)
   serves_less (b ∷ bs) others s t last end asked replies ended over (ending.goes_on other lives) (goes_on {t = v} {asked = h} {more = hs} {first = f} {replies = r} does rest) =
       goes_on does
       (serves_less bs others v t last end hs r ended over
-      (subst (λ p. Lives p bs last end) (sym (of_gate_built g s (message_of b) h v f No does).0) lives) rest)
+      (subst (λ p. Lives p bs last end) (sym (of_gate_built setting s (message_of b) h v f No does).0) lives) rest)
 
 -- the phase behind bodies, and the end
 abbrev HasEnd : Phase → List (List ℕ) → Type 0

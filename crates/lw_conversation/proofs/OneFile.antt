@@ -1,7 +1,7 @@
 -- What becomes of documents whose files are read or have changed is settled by what is found of the files.
 use Rattle.std.proofs.Common.{◌≡◌, ◌≢◌, ℕ, List, [], ◌∷◌, ◌++◌, false, None, codes, inl, inr, ◌⊎◌, sym, refl, ap, ap₂, ◌∙◌, subst, subst₂}
 use Rattle.std.specs.FinMap.{get, insert}
-use Rattle.lw_grammar.specs.declared.grammar.Grammar.{Grammar}
+use Rattle.lw_link_rules.specs.Setting.{Setting}
 use Rattle.lw_io.specs.declared.store.Found.{Found}
 use Rattle.lw_io.specs.declared.store.Found.TheVariants.{Text, Absent, NotUtf8, TooLong, Failed, NoMemory}
 use Rattle.lw_reading.specs.Laws.{IsReadOneWay}
@@ -23,21 +23,21 @@ use Rattle.lw_conversation.proofs.Alike.{Alike, HasOnePath, IsAlike, abreast_beh
 use Rattle.lw_conversation.proofs.OneEdit.{never_full, never_unknown, same_open}
 use Rattle.lw_conversation.proofs.OneRemoval.{one_removal}
 
-module _ (g : Grammar) (one_way : IsReadOneWay g) (one_path : HasOnePath) (m : Documents) (address : List ℕ) where
+module _ (setting : Setting) (one_way : IsReadOneWay setting.grammar) (one_path : HasOnePath) (m : Documents) (address : List ℕ) where
   -- it is removed, and what is wrong with its file is told behind that
   abbrev RemovesAndTells : Reply → Documents → List Reply → Type 0
-  RemovesAndTells log n p = (farewells : List Reply) × Removes g m address n farewells × (p ≡ farewells ++ log ∷ [])
+  RemovesAndTells log n p = (farewells : List Reply) × Removes setting m address n farewells × (p ≡ farewells ++ log ∷ [])
 
   one_telling : (log : Reply) (n o : Documents) (p q : List Reply) → RemovesAndTells log n p → RemovesAndTells log o q → (n ≡ o) × (p ≡ q)
   one_telling log n o p q (told, removes, is) (tells, also, was) =
-      let one = one_removal g one_way m address n o told tells removes also in (one.0, is ∙ ap (λ replies. replies ++ log ∷ []) one.1 ∙ sym was)
+      let one = one_removal setting one_way m address n o told tells removes also in (one.0, is ∙ ap (λ replies. replies ++ log ∷ []) one.1 ∙ sym was)
 
   -- ---- a document that is closed
 
   -- what becomes of one that is open, by what is found of its file
   abbrev ClosesTo : Document → Found → Documents → List Reply → Type 0
   ClosesTo d (Text text) n p = (n ≡ put m address text None false) × (p ≡ [])
-  ClosesTo d Absent n p = Removes g m address n p
+  ClosesTo d Absent n p = Removes setting m address n p
   ClosesTo d NotUtf8 n p = RemovesAndTells (not_text_log address) n p
   ClosesTo d TooLong n p = RemovesAndTells (too_long_log address) n p
   ClosesTo d Failed n p = (n ≡ insert m address (closed d)) × (p ≡ failed_log address ∷ [])
@@ -48,7 +48,7 @@ module _ (g : Grammar) (one_way : IsReadOneWay g) (one_path : HasOnePath) (m : D
 
   one_closed : (d : Document) (found : Found) (n o : Documents) (p q : List Reply) → ClosesTo d found n p → ClosesTo d found o q → (n ≡ o) × (p ≡ q)
   one_closed d (Text text) n o p q is was = (is.0 ∙ sym was.0, is.1 ∙ sym was.1)
-  one_closed d Absent n o p q is was = one_removal g one_way m address n o p q is was
+  one_closed d Absent n o p q is was = one_removal setting one_way m address n o p q is was
   one_closed d NotUtf8 n o p q is was = one_telling (not_text_log address) n o p q is was
   one_closed d TooLong n o p q is was = one_telling (too_long_log address) n o p q is was
   one_closed d Failed n o p q is was = (is.0 ∙ sym was.0, is.1 ∙ sym was.1)
@@ -60,7 +60,7 @@ module _ (g : Grammar) (one_way : IsReadOneWay g) (one_path : HasOnePath) (m : D
   abbrev StaysUnknown : Documents → List Reply → Type 0
   StaysUnknown n p = IsUnknown m address × (n ≡ m) × (p ≡ Log (codes "unknown document: " ++ address) ∷ [])
 
-  seen_closed : (asked : List Asked) (n : Documents) (p : List Reply) → ClosesDocument g m address asked n p → StaysUnknown n p ⊎ ClosesByFile asked n p
+  seen_closed : (asked : List Asked) (n : Documents) (p : List Reply) → ClosesDocument setting m address asked n p → StaysUnknown n p ⊎ ClosesByFile asked n p
   seen_closed asked n p (closing.unknown shut) = inl (shut, refl, refl)
   seen_closed asked n p (closing.text {d = d} {text = t} here finds) = inr (d, Text t, here, finds, (refl, refl))
   seen_closed asked n p (closing.absent {d = d} here finds removes) = inr (d, Absent, here, finds, removes)
@@ -68,8 +68,8 @@ module _ (g : Grammar) (one_way : IsReadOneWay g) (one_path : HasOnePath) (m : D
   seen_closed asked n p (closing.too_long {d = d} {replies = r} here finds removes) = inr (d, TooLong, here, finds, (r, removes, refl))
   seen_closed asked n p (closing.failed {d = d} here finds) = inr (d, Failed, here, finds, (refl, refl))
 
-  pub one_closing : (asked others : List Asked) (n o : Documents) (p q : List Reply) → Alike asked others → ClosesDocument g m address asked n p →
-      ClosesDocument g m address others o q → (n ≡ o) × (p ≡ q)
+  pub one_closing : (asked others : List Asked) (n o : Documents) (p q : List Reply) → Alike asked others → ClosesDocument setting m address asked n p →
+      ClosesDocument setting m address others o q → (n ≡ o) × (p ≡ q)
   one_closing asked others n o p q alike first second = by (seen_closed asked n p first) (seen_closed others o q second)
     where
       by : StaysUnknown n p ⊎ ClosesByFile asked n p → StaysUnknown o q ⊎ ClosesByFile others o q → (n ≡ o) × (p ≡ q)
@@ -87,7 +87,7 @@ module _ (g : Grammar) (one_way : IsReadOneWay g) (one_path : HasOnePath) (m : D
   LoadsTo (Text text) n p =
       (HasRoom m address × (n ≡ put m address text None false) × (p ≡ []))
       ⊎ (IsFull m address × (n ≡ m) × (p ≡ Log (codes "too many documents: " ++ address) ∷ []))
-  LoadsTo Absent n p = Removes g m address n p ⊎ ((get m address ≡ None) × (n ≡ m) × (p ≡ []))
+  LoadsTo Absent n p = Removes setting m address n p ⊎ ((get m address ≡ None) × (n ≡ m) × (p ≡ []))
   LoadsTo NotUtf8 n p = (n ≡ m) × (p ≡ not_text_log address ∷ [])
   LoadsTo TooLong n p = (n ≡ m) × (p ≡ too_long_log address ∷ [])
   LoadsTo Failed n p = (n ≡ m) × (p ≡ failed_log address ∷ [])
@@ -96,7 +96,7 @@ module _ (g : Grammar) (one_way : IsReadOneWay g) (one_path : HasOnePath) (m : D
   memory_for : (found : Found) (n : Documents) (p : List Reply) → LoadsTo found n p → found ≢ NoMemory
   memory_for found n p does same = subst (λ f. LoadsTo f n p) same does
 
-  never_held : {A : Type 0} {n : Documents} {p : List Reply} → get m address ≡ None → Removes g m address n p → A
+  never_held : {A : Type 0} {n : Documents} {p : List Reply} → get m address ≡ None → Removes setting m address n p → A
   never_held none removes = absurd (let same = sym none ∙ removes.held in cc)
 
   one_loaded : (found : Found) (n o : Documents) (p q : List Reply) → LoadsTo found n p → LoadsTo found o q → (n ≡ o) × (p ≡ q)
@@ -104,7 +104,7 @@ module _ (g : Grammar) (one_way : IsReadOneWay g) (one_path : HasOnePath) (m : D
   one_loaded (Text text) n o p q (inl (room, is, told)) (inr (full, was, telling)) = never_full m address full room
   one_loaded (Text text) n o p q (inr (full, is, told)) (inl (room, was, telling)) = never_full m address full room
   one_loaded (Text text) n o p q (inr (full, is, told)) (inr (also, was, telling)) = (is ∙ sym was, told ∙ sym telling)
-  one_loaded Absent n o p q (inl removes) (inl also) = one_removal g one_way m address n o p q removes also
+  one_loaded Absent n o p q (inl removes) (inl also) = one_removal setting one_way m address n o p q removes also
   one_loaded Absent n o p q (inl removes) (inr (none, was, telling)) = never_held none removes
   one_loaded Absent n o p q (inr (none, is, told)) (inl removes) = never_held none removes
   one_loaded Absent n o p q (inr (none, is, told)) (inr (also, was, telling)) = (is ∙ sym was, told ∙ sym telling)
@@ -116,7 +116,7 @@ module _ (g : Grammar) (one_way : IsReadOneWay g) (one_path : HasOnePath) (m : D
   abbrev LoadsByFile : List Asked → Documents → List Reply → Type 0
   LoadsByFile asked n p = (found : Found) × FindsFile address asked found × LoadsTo found n p
 
-  seen_loaded : (asked : List Asked) (n : Documents) (p : List Reply) → LoadsAgain g m address asked n p → LoadsByFile asked n p
+  seen_loaded : (asked : List Asked) (n : Documents) (p : List Reply) → LoadsAgain setting m address asked n p → LoadsByFile asked n p
   seen_loaded asked n p (watching.text {text = t} finds room) = (Text t, finds, inl (room, refl, refl))
   seen_loaded asked n p (watching.too_many {text = t} finds full) = (Text t, finds, inr (full, refl, refl))
   seen_loaded asked n p (watching.gone finds removes) = (Absent, finds, inl removes)
@@ -129,8 +129,8 @@ module _ (g : Grammar) (one_way : IsReadOneWay g) (one_path : HasOnePath) (m : D
   abbrev AreOne : List Asked → Documents → List Reply → List Asked → Documents → List Reply → Type 0
   AreOne asked n p others o q = (asked ≡ others) × (n ≡ o) × (p ≡ q)
 
-  one_loading : (asked others : List Asked) (n o : Documents) (p q : List Reply) → Alike asked others → LoadsAgain g m address asked n p →
-      LoadsAgain g m address others o q → AreOne asked n p others o q
+  one_loading : (asked others : List Asked) (n o : Documents) (p q : List Reply) → Alike asked others → LoadsAgain setting m address asked n p →
+      LoadsAgain setting m address others o q → AreOne asked n p others o q
   one_loading asked others n o p q alike first second = by (seen_loaded asked n p first) (seen_loaded others o q second)
     where
       by : LoadsByFile asked n p → LoadsByFile others o q → AreOne asked n p others o q
@@ -145,7 +145,7 @@ module _ (g : Grammar) (one_way : IsReadOneWay g) (one_path : HasOnePath) (m : D
   never_open d none is = absurd (let same = sym none ∙ is.held in cc)
 
   one_change : (kind : FileChangeKind) (asked others : List Asked) (n o : Documents) (p q : List Reply) → Alike asked others →
-      SeesChange g m address kind asked n p → SeesChange g m address kind others o q → AreOne asked n p others o q
+      SeesChange setting m address kind asked n p → SeesChange setting m address kind others o q → AreOne asked n p others o q
   one_change kind asked others n o p q alike (watching.is_open here) (watching.is_open there) = (refl, refl, refl)
   one_change kind asked others n o p q alike (watching.is_open {d = d} here) (watching.loads stays shut loads) = never_unknown m address d shut here
   one_change kind asked others n o p q alike (watching.is_open {d = d} here) (watching.removed gone shut removes) = never_unknown m address d shut here
@@ -158,21 +158,21 @@ module _ (g : Grammar) (one_way : IsReadOneWay g) (one_path : HasOnePath) (m : D
   one_change kind asked others n o p q alike (watching.removed gone shut removes) (watching.is_open {d = d} there) = never_unknown m address d shut there
   one_change kind asked others n o p q alike (watching.removed gone shut removes) (watching.loads stays also loads) = absurd (stays gone)
   one_change kind asked others n o p q alike (watching.removed gone shut removes) (watching.removed also too remove) =
-      let one = one_removal g one_way m address n o p q removes remove in (refl, one.0, one.1)
+      let one = one_removal setting one_way m address n o p q removes remove in (refl, one.0, one.1)
   one_change kind asked others n o p q alike (watching.removed gone shut removes) (watching.not_held also none) = never_held none removes
   one_change kind asked others n o p q alike (watching.not_held gone none) (watching.is_open {d = d} there) = never_open d none there
   one_change kind asked others n o p q alike (watching.not_held gone none) (watching.loads stays shut loads) = absurd (stays gone)
   one_change kind asked others n o p q alike (watching.not_held gone none) (watching.removed also shut removes) = never_held none removes
   one_change kind asked others n o p q alike (watching.not_held gone none) (watching.not_held also too) = (refl, refl, refl)
 
-module _ (g : Grammar) (one_way : IsReadOneWay g) (one_path : HasOnePath) where
+module _ (setting : Setting) (one_way : IsReadOneWay setting.grammar) (one_path : HasOnePath) where
   pub one_watching : (m : Documents) (changes : List FileChange) (asked others : List Asked) (n o : Documents) (p q : List Reply) → Alike asked others →
-      SeesChanges g m changes asked n p → SeesChanges g m changes others o q → (n ≡ o) × (p ≡ q)
+      SeesChanges setting m changes asked n p → SeesChanges setting m changes others o q → (n ≡ o) × (p ≡ q)
   one_watching m changes asked others n o p q alike watching.none watching.none = (refl, refl)
   one_watching m changes asked others n o p q alike
       (watching.change {n = k} {c = c} {others = cs} {asked = a} {more = x} {first = f} {rest = r} sees rest)
       (watching.change {n = l} {asked = b} {more = y} {first = h} {rest = s} saw more) =
-      let one = one_change g one_way one_path m c.uri c.kind a b k l f h (abreast_front IsAlike a b x y alike) sees saw in
+      let one = one_change setting one_way one_path m c.uri c.kind a b k l f h (abreast_front IsAlike a b x y alike) sees saw in
       let behind = abreast_behind IsAlike a x y (subst (λ z. Alike (a ++ x) (z ++ y)) (sym one.0) alike) in
-      let end = one_watching k cs x y n o r s behind rest (subst (λ z. SeesChanges g z cs y o s) (sym one.1) more) in
+      let end = one_watching k cs x y n o r s behind rest (subst (λ z. SeesChanges setting z cs y o s) (sym one.1) more) in
       (end.0, ap₂ (λ v w. v ++ w) one.2 end.1)

@@ -4,7 +4,7 @@ use Rattle.std.specs.List.{AllZip}
 use Rattle.std.specs.FinMap.{get}
 use Rattle.std.proofs.lemmas.Option.{same_Some}
 use Rattle.lw_base.specs.declared.token.Span.{Span}
-use Rattle.lw_grammar.specs.declared.grammar.Grammar.{Grammar}
+use Rattle.lw_link_rules.specs.Setting.{Setting}
 use Rattle.lw_text.specs.Offset.{IsOffset}
 use Rattle.lw_text.specs.Position.{IsPosition}
 use Rattle.lw_text.specs.declared.place.Pos.{Pos}
@@ -95,27 +95,27 @@ one_file texts new file d e is was =
 -- ---- questions
 
 -- by this grammar there is one list of offers at an offset
-abbrev pub HasOneList : Grammar → Type 0
-HasOneList g = (texts : Texts) (address text : List ℕ) (offset : ℕ) (offers others : List Offer) → AreOffers g texts address text offset offers →
-    AreOffers g texts address text offset others → offers ≡ others
+abbrev pub HasOneList : Setting → Type 0
+HasOneList setting = (texts : Texts) (address text : List ℕ) (offset : ℕ) (offers others : List Offer) → AreOffers setting texts address text offset offers →
+    AreOffers setting texts address text offset others → offers ≡ others
 
-module _ (g : Grammar) (one_way : IsReadOneWay g) (one_list : HasOneList g) where
+module _ (setting : Setting) (one_way : IsReadOneWay setting.grammar) (one_list : HasOneList setting) where
   one_start : (texts : Texts) (address text other : List ℕ) (tree tree' : Parts) (i : ℕ) (r r' : Reference) (a b : Pos) → texts address ≡ Some text →
-      texts address ≡ Some other → Reads g text (Whole tree) → Reads g other (Whole tree') → slice_get tree.refs i ≡ Some r → slice_get tree'.refs i ≡ Some r' →
+      texts address ≡ Some other → Reads setting.grammar text (Whole tree) → Reads setting.grammar other (Whole tree') → slice_get tree.refs i ≡ Some r → slice_get tree'.refs i ≡ Some r' →
       IsPosition text r.span.start a → IsPosition other r'.span.start b → a ≡ b
   one_start texts address text other tree tree' i r r' a b is was reads read there here at behind =
       let same = one_text texts address text other is was in
-      let refs = same_refs (one_reading g one_way text (Whole tree) (Whole tree') reads (subst (λ t. Reads g t (Whole tree')) (sym same) read)) in
+      let refs = same_refs (one_reading setting.grammar one_way text (Whole tree) (Whole tree') reads (subst (λ t. Reads setting.grammar t (Whole tree')) (sym same) read)) in
       let one : r ≡ r' = same_Some r r' (sym there ∙ ap (λ (xs : List Reference). slice_get xs i) refs ∙ here) in
       one_position text other r.span.start a b same at (subst (λ (x : Reference). IsPosition other x.span.start b) (sym one) behind)
     where
       same_refs : {one other : Parts} → IsSameReading (Whole one) (Whole other) → one.refs ≡ other.refs
       same_refs (reading.whole tables) = tables.refs
 
-  one_refusal_text : (texts : Texts) (refusal other : Refusal) (text said : List ℕ) → refusal ≡ other → IsRefusalText g texts refusal text → IsRefusalText g texts other said → text ≡ said
-  one_refusal_text texts refusal other text said same is was = by refusal text said is (subst (λ x. IsRefusalText g texts x said) (sym same) was)
+  one_refusal_text : (texts : Texts) (refusal other : Refusal) (text said : List ℕ) → refusal ≡ other → IsRefusalText setting.grammar texts refusal text → IsRefusalText setting.grammar texts other said → text ≡ said
+  one_refusal_text texts refusal other text said same is was = by refusal text said is (subst (λ x. IsRefusalText setting.grammar texts x said) (sym same) was)
     where
-      by : (refusal : Refusal) (text said : List ℕ) → IsRefusalText g texts refusal text → IsRefusalText g texts refusal said → text ≡ said
+      by : (refusal : Refusal) (text said : List ℕ) → IsRefusalText setting.grammar texts refusal text → IsRefusalText setting.grammar texts refusal said → text ≡ said
       by refusal text said ask.no_name ask.no_name = refl
       by refusal text said ask.not_parsed ask.not_parsed = refl
       by refusal text said ask.shape ask.shape = refl
@@ -125,21 +125,21 @@ module _ (g : Grammar) (one_way : IsReadOneWay g) (one_list : HasOneList g) wher
           (one_start texts address t u tree tree' i r r' a b is was reads read there here at behind)
 
   module _ (m : Documents) (address : List ℕ) (at : Pos) where
-    never_held : {A : Type 0} {offset : ℕ} → get m address ≡ None → IsAskedAt g m address at offset → A
+    never_held : {A : Type 0} {offset : ℕ} → get m address ≡ None → IsAskedAt setting m address at offset → A
     never_held none is = absurd (let same = sym none ∙ is.held in cc)
 
-    one_offset : (a b : ℕ) → IsAskedAt g m address at a → IsAskedAt g m address at b → a ≡ b
+    one_offset : (a b : ℕ) → IsAskedAt setting m address at a → IsAskedAt setting m address at b → a ≡ b
     one_offset a b is was =
         let same = same_Some is.document was.document (sym is.held ∙ was.held) in
         IsOffset-only Utf16 is.document.text at a b is.means (subst (λ (d : Document). IsOffset Utf16 d.text at b) (sym same) was.means)
 
-    one_mention : (a b : ℕ) (p q : Option Mention) → IsAskedAt g m address at a → IsAskedAt g m address at b → IsDefinition g (present_texts m) address a p →
-        IsDefinition g (present_texts m) address b q → p ≡ q
+    one_mention : (a b : ℕ) (p q : Option Mention) → IsAskedAt setting m address at a → IsAskedAt setting m address at b → IsDefinition setting (present_texts m) address a p →
+        IsDefinition setting (present_texts m) address b q → p ≡ q
     one_mention a b p q is was first second =
-        one_place_of_definition g one_way (present_texts m) address a p q first
-        (subst (λ o. IsDefinition g (present_texts m) address o q) (sym (one_offset a b is was)) second)
+        one_place_of_definition setting one_way (present_texts m) address a p q first
+        (subst (λ o. IsDefinition setting (present_texts m) address o q) (sym (one_offset a b is was)) second)
 
-    one_definition_told : (p q : Outcome) → TellsDefinition g m address at p → TellsDefinition g m address at q → p ≡ q
+    one_definition_told : (p q : Outcome) → TellsDefinition setting m address at p → TellsDefinition setting m address at q → p ≡ q
     one_definition_told p q (ask.not_held none) (ask.not_held also) = refl
     one_definition_told p q (ask.not_held none) (ask.nothing is found) = never_held none is
     one_definition_told p q (ask.not_held none) (ask.spot is found l) = never_held none is
@@ -152,16 +152,16 @@ module _ (g : Grammar) (one_way : IsReadOneWay g) (one_list : HasOneList g) wher
         absurd (let same = one_mention a b (Some n) None is was found other in cc)
     one_definition_told p q (ask.spot {offset = a} {mention = n} {location = l} is found here) (ask.spot {offset = b} {mention = k} {location = h} was other there) =
         let same = same_Some n k (one_mention a b (Some n) (Some k) is was found other) in
-        ap Spot (one_location (present_texts m) n l h here (subst (λ x. IsLocationOf (present_texts m) x h) (sym same) there))
+        ap Spot (one_location (present_texts m) n l h.grammar here (subst (λ x. IsLocationOf (present_texts m) x h.grammar) (sym same) there))
 
     module _ (declaration : Bool) where
-      one_list_of_mentions : (a b : ℕ) (p q : Option (List Mention)) → IsAskedAt g m address at a → IsAskedAt g m address at b →
-          AreReferences g (present_texts m) address a declaration p → AreReferences g (present_texts m) address b declaration q → p ≡ q
+      one_list_of_mentions : (a b : ℕ) (p q : Option (List Mention)) → IsAskedAt setting m address at a → IsAskedAt setting m address at b →
+          AreReferences setting (present_texts m) address a declaration p → AreReferences setting (present_texts m) address b declaration q → p ≡ q
       one_list_of_mentions a b p q is was first second =
-          one_list_of_references g one_way (present_texts m) address a declaration p q first
-          (subst (λ o. AreReferences g (present_texts m) address o declaration q) (sym (one_offset a b is was)) second)
+          one_list_of_references setting one_way (present_texts m) address a declaration p q first
+          (subst (λ o. AreReferences setting (present_texts m) address o declaration q) (sym (one_offset a b is was)) second)
 
-      one_references_told : (p q : Outcome) → TellsReferences g m address at declaration p → TellsReferences g m address at declaration q → p ≡ q
+      one_references_told : (p q : Outcome) → TellsReferences setting m address at declaration p → TellsReferences setting m address at declaration q → p ≡ q
       one_references_told p q (ask.not_held none) (ask.not_held also) = refl
       one_references_told p q (ask.not_held none) (ask.nothing is found) = never_held none is
       one_references_told p q (ask.not_held none) (ask.spots is found l) = never_held none is
@@ -176,19 +176,19 @@ module _ (g : Grammar) (one_way : IsReadOneWay g) (one_list : HasOneList g) wher
           (ask.spots {offset = b} {mentions = k} {locations = h} was other there) =
           let same = same_Some n k (one_list_of_mentions a b (Some n) (Some k) is was found other) in
           ap Spots
-          (one_row_of (IsLocationOf (present_texts m)) (IsLocationOf (present_texts m)) (one_location (present_texts m)) n l h here
-          (subst (λ xs. AllZip (IsLocationOf (present_texts m)) xs h) (sym same) there))
+          (one_row_of (IsLocationOf (present_texts m)) (IsLocationOf (present_texts m)) (one_location (present_texts m)) n l h.grammar here
+          (subst (λ xs. AllZip (IsLocationOf (present_texts m)) xs h.grammar) (sym same) there))
 
     one_list_of_items : (text other : List ℕ) (a b : ℕ) (offers others : List Offer) (items more : List CompletionItem) → text ≡ other → a ≡ b →
-        AreOffers g (present_texts m) address text a offers → AreOffers g (present_texts m) address other b others → AllZip (IsItemOf text a) offers items →
+        AreOffers setting (present_texts m) address text a offers → AreOffers setting (present_texts m) address other b others → AllZip (IsItemOf text a) offers items →
         AllZip (IsItemOf other b) others more → items ≡ more
     one_list_of_items text other a b offers others items more same place are were told tells =
-        let were' = subst₂ (λ (t : List ℕ) (o : ℕ). AreOffers g (present_texts m) address t o others) (sym same) (sym place) were in
+        let were' = subst₂ (λ (t : List ℕ) (o : ℕ). AreOffers setting (present_texts m) address t o others) (sym same) (sym place) were in
         let lists : offers ≡ others = one_list (present_texts m) address text a offers others are were' in
         one_row_of (IsItemOf text a) (IsItemOf text a) (one_item text a) offers items more told
         (subst (λ (os : List Offer). AllZip (IsItemOf text a) os more) (sym lists) (subst₂ (λ (t : List ℕ) (o : ℕ). AllZip (IsItemOf t o) others more) (sym same) (sym place) tells))
 
-    one_completion_told : (p q : Outcome) → TellsCompletion g m address at p → TellsCompletion g m address at q → p ≡ q
+    one_completion_told : (p q : Outcome) → TellsCompletion setting m address at p → TellsCompletion setting m address at q → p ≡ q
     one_completion_told p q (ask.not_held none) (ask.not_held also) = refl
     one_completion_told p q (ask.not_held none) (ask.offered is are items) = never_held none is
     one_completion_told p q (ask.offered is are items) (ask.not_held none) = never_held none is
@@ -198,13 +198,13 @@ module _ (g : Grammar) (one_way : IsReadOneWay g) (one_list : HasOneList g) wher
         ap Offers (one_list_of_items is.document.text was.document.text a b o u i j same (one_offset a b is was) are were told tells)
 
     module _ (id : Id) (new : List ℕ) where
-      one_outcome_of : (a b : ℕ) (p q : Result (List Mention) Refusal) → IsAskedAt g m address at a → IsAskedAt g m address at b →
-          IsRenamed g (present_texts m) address a new p → IsRenamed g (present_texts m) address b new q → p ≡ q
+      one_outcome_of : (a b : ℕ) (p q : Result (List Mention) Refusal) → IsAskedAt setting m address at a → IsAskedAt setting m address at b →
+          IsRenamed setting (present_texts m) address a new p → IsRenamed setting (present_texts m) address b new q → p ≡ q
       one_outcome_of a b p q is was first second =
-          one_renaming g one_way (present_texts m) address a new p q first
-          (subst (λ o. IsRenamed g (present_texts m) address o new q) (sym (one_offset a b is was)) second)
+          one_renaming setting one_way (present_texts m) address a new p q first
+          (subst (λ o. IsRenamed setting (present_texts m) address o new q) (sym (one_offset a b is was)) second)
 
-      one_rename_told : (p q : Reply) → TellsRename g m id address at new p → TellsRename g m id address at new q → p ≡ q
+      one_rename_told : (p q : Reply) → TellsRename setting m id address at new p → TellsRename setting m id address at new q → p ≡ q
       one_rename_told p q (ask.not_held none) (ask.not_held also) = refl
       one_rename_told p q (ask.not_held none) (ask.refused is found said) = never_held none is
       one_rename_told p q (ask.not_held none) (ask.renames is found edits) = never_held none is
@@ -222,11 +222,11 @@ module _ (g : Grammar) (one_way : IsReadOneWay g) (one_list : HasOneList g) wher
           let outcomes = one_outcome_of a b (Ok n) (Ok k) is was found other in
           let same : n ≡ k = cc in
           ap (λ files. Done id (Edits files))
-          (one_row_of (AreEditsOf (present_texts m) new) (AreEditsOf (present_texts m) new) (one_file (present_texts m) new) (by_document n) l h edits
-          (subst (λ xs. AllZip (AreEditsOf (present_texts m) new) (by_document xs) h) (sym same) editing))
+          (one_row_of (AreEditsOf (present_texts m) new) (AreEditsOf (present_texts m) new) (one_file (present_texts m) new) (by_document n) l h.grammar edits
+          (subst (λ xs. AllZip (AreEditsOf (present_texts m) new) (by_document xs) h.grammar) (sym same) editing))
 
   -- a question has one reply
-  pub one_reply : (m : Documents) (message : Message) (p q : Reply) → RepliesTo g m message p → RepliesTo g m message q → p ≡ q
+  pub one_reply : (m : Documents) (message : Message) (p q : Reply) → RepliesTo setting m message p → RepliesTo setting m message q → p ≡ q
   one_reply m message p q (ask.definition {id = id} {address = a} {at = at} {outcome = x} is) (ask.definition {outcome = y} was) =
       ap (Done id) (one_definition_told m a at x y is was)
   one_reply m message p q (ask.references {id = id} {address = a} {at = at} {declaration = d} {outcome = x} is) (ask.references {outcome = y} was) =

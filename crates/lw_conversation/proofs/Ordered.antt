@@ -11,7 +11,7 @@ use Rattle.std.proofs.lemmas.List.Elements.{All-append, All-cons}
 use Rattle.std.proofs.lemmas.List.Kept.{AllPairs-cons}
 use Rattle.std.proofs.lemmas.Slice.Eq.{bytes_eq-Decides}
 use Rattle.lw_base.specs.declared.token.Span.{Span}
-use Rattle.lw_grammar.specs.declared.grammar.Grammar.{Grammar}
+use Rattle.lw_link_rules.specs.Setting.{Setting}
 use Rattle.lw_rpc.specs.Replies.{AreOrdered, HasOrderedEdits}
 use Rattle.lw_rpc.specs.declared.message.Id.{Id}
 use Rattle.lw_rpc.specs.declared.file_change.FileChange.{FileChange}
@@ -123,13 +123,13 @@ same_keys texts new [] (e ∷ es) are = absurd are
 same_keys texts new (f ∷ fs) [] are = absurd are
 same_keys texts new (f ∷ fs) (e ∷ es) are = ap₂ (λ b bs. b ∷ bs) are.0.uri (same_keys texts new fs es are.1)
 
-in_order : (g : Grammar) (texts : Texts) (address new : List ℕ) (offset : ℕ) (mentions : List Mention) (files : List FileEdits) →
-    IsRenamed g texts address offset new (Ok mentions) → AllZip (AreEditsOf texts new) (by_document mentions) files → AreOrdered files
-in_order g texts address new offset mentions files (rename.renamed is kept stay) are =
+in_order : (setting : Setting) (texts : Texts) (address new : List ℕ) (offset : ℕ) (mentions : List Mention) (files : List FileEdits) →
+    IsRenamed setting texts address offset new (Ok mentions) → AllZip (AreEditsOf texts new) (by_document mentions) files → AreOrdered files
+in_order setting texts address new offset mentions files (rename.renamed is kept stay) are =
     subst (λ us. AllPairs Ascends us) (sym (same_keys texts new (by_document mentions) files are)) (documents_in_order mentions is.are_mentions.ordered)
 
-module _ (g : Grammar) (m : Documents) where
-  question_in_order : (message : Message) (reply : Reply) → RepliesTo g m message reply → HasOrderedEdits reply
+module _ (setting : Setting) (m : Documents) where
+  question_in_order : (message : Message) (reply : Reply) → RepliesTo setting m message reply → HasOrderedEdits reply
   question_in_order message reply (ask.definition (ask.not_held _)) = tt
   question_in_order message reply (ask.definition (ask.nothing _ _)) = tt
   question_in_order message reply (ask.definition (ask.spot _ _ _)) = tt
@@ -139,7 +139,7 @@ module _ (g : Grammar) (m : Documents) where
   question_in_order message reply (ask.rename (ask.not_held _)) = tt
   question_in_order message reply (ask.rename (ask.refused _ _ _)) = tt
   question_in_order message reply (ask.rename {address = a} {new = new} (ask.renames {offset = o} {mentions = ms} {files = fs} _ is are)) =
-      in_order g _ a new o ms fs is are
+      in_order setting _ a new o ms fs is are
   question_in_order message reply (ask.completion (ask.not_held _)) = tt
   question_in_order message reply (ask.completion (ask.offered _ _ _)) = tt
 
@@ -208,11 +208,11 @@ lists_in_order (l ∷ ls) = All-cons HasOrderedEdits (as_reply l) (map as_reply 
 one_more_reply : (replies : List Reply) (last : Reply) → All HasOrderedEdits replies → HasOrderedEdits last → All HasOrderedEdits (replies ++ last ∷ [])
 one_more_reply replies last are is = All-append HasOrderedEdits replies (last ∷ []) are (one_in_order last is)
 
-module _ (g : Grammar) where
-  removal_in_order : (m : Documents) (address : List ℕ) (n : Documents) (replies : List Reply) → Removes g m address n replies → All HasOrderedEdits replies
+module _ (setting : Setting) where
+  removal_in_order : (m : Documents) (address : List ℕ) (n : Documents) (replies : List Reply) → Removes setting m address n replies → All HasOrderedEdits replies
   removal_in_order m address n replies removes = subst (All HasOrderedEdits) (sym removes.told) (lists_in_order (farewell address removes.d.published))
 
-  closing_in_order : (m : Documents) (address : List ℕ) (asked : List Asked) (n : Documents) (replies : List Reply) → ClosesDocument g m address asked n replies →
+  closing_in_order : (m : Documents) (address : List ℕ) (asked : List Asked) (n : Documents) (replies : List Reply) → ClosesDocument setting m address asked n replies →
       All HasOrderedEdits replies
   closing_in_order m address asked n replies (closing.unknown shut) = one_in_order _ tt
   closing_in_order m address asked n replies (closing.text here finds) = none_to_order
@@ -221,7 +221,7 @@ module _ (g : Grammar) where
   closing_in_order m address asked n replies (closing.too_long {replies = r} here finds removes) = one_more_reply r _ (removal_in_order m address n r removes) tt
   closing_in_order m address asked n replies (closing.failed here finds) = one_in_order _ tt
 
-  loading_in_order : (m : Documents) (address : List ℕ) (asked : List Asked) (n : Documents) (replies : List Reply) → LoadsAgain g m address asked n replies →
+  loading_in_order : (m : Documents) (address : List ℕ) (asked : List Asked) (n : Documents) (replies : List Reply) → LoadsAgain setting m address asked n replies →
       All HasOrderedEdits replies
   loading_in_order m address asked n replies (watching.text finds room) = none_to_order
   loading_in_order m address asked n replies (watching.too_many finds full) = one_in_order _ tt
@@ -232,29 +232,29 @@ module _ (g : Grammar) where
   loading_in_order m address asked n replies (watching.failed finds) = one_in_order _ tt
 
   change_in_order : (m : Documents) (address : List ℕ) (kind : FileChangeKind) (asked : List Asked) (n : Documents) (replies : List Reply) →
-      SeesChange g m address kind asked n replies → All HasOrderedEdits replies
+      SeesChange setting m address kind asked n replies → All HasOrderedEdits replies
   change_in_order m address kind asked n replies (watching.is_open here) = none_to_order
   change_in_order m address kind asked n replies (watching.loads stays shut loads) = loading_in_order m address asked n replies loads
   change_in_order m address kind asked n replies (watching.removed gone shut removes) = removal_in_order m address n replies removes
   change_in_order m address kind asked n replies (watching.not_held gone none) = none_to_order
 
-  changes_in_order : (m : Documents) (changes : List FileChange) (asked : List Asked) (n : Documents) (replies : List Reply) → SeesChanges g m changes asked n replies →
+  changes_in_order : (m : Documents) (changes : List FileChange) (asked : List Asked) (n : Documents) (replies : List Reply) → SeesChanges setting m changes asked n replies →
       All HasOrderedEdits replies
   changes_in_order m changes asked n replies watching.none = none_to_order
   changes_in_order m changes asked n replies (watching.change {n = k} {c = c} {others = cs} {asked = a} {more = b} {first = f} {rest = r} saw rest) =
       All-append HasOrderedEdits f r (change_in_order m c.uri c.kind a k f saw) (changes_in_order k cs b n r rest)
 
-  effect_in_order : (m : Documents) (message : Message) (asked : List Asked) (n : Documents) (replies : List Reply) → TakesEffect g m message asked n replies →
+  effect_in_order : (m : Documents) (message : Message) (asked : List Asked) (n : Documents) (replies : List Reply) → TakesEffect setting m message asked n replies →
       All HasOrderedEdits replies
   effect_in_order m message asked n replies (opens does) = opening_in_order does
   effect_in_order m message asked n replies (edits does) = editing_in_order does
   effect_in_order m message asked n replies (closes {address = a} does) = closing_in_order m a asked n replies does
   effect_in_order m message asked n replies (sees {changes = c} does) = changes_in_order m c asked n replies does
   effect_in_order m message asked n replies (asks lists reply builds is) =
-      one_more_reply (map as_reply lists) reply (lists_in_order lists) (question_in_order g n message reply is)
+      one_more_reply (map as_reply lists) reply (lists_in_order lists) (question_in_order setting n message reply is)
 
   -- where a message is answered with edits, their addresses are in order
-  pub answers_in_order : (s : Standing) (m : Message) (asked : List Asked) (t : Standing) (replies : List Reply) (ended : Ended) → Answered g s m asked t replies ended →
+  pub answers_in_order : (s : Standing) (m : Message) (asked : List Asked) (t : Standing) (replies : List Reply) (ended : Ended) → Answered setting s m asked t replies ended →
       All HasOrderedEdits replies
   answers_in_order s m asked t replies ended (stops is) = subst IsOrderedPassage is (gate_in_order s.phase m)
   answers_in_order s m asked t replies ended (passes {n = n} is effect) = effect_in_order s.documents m asked n replies effect

@@ -3,7 +3,7 @@ use Rattle.std.proofs.Common.{◌≡◌, ℕ, ℤ, List, [], ◌∷◌, ◌++◌
 use Rattle.std.specs.Prelude.{if◌then◌else◌}
 use Rattle.std.specs.FinMap.{get}
 use Rattle.std.proofs.lemmas.Option.{same_Some, none-some}
-use Rattle.lw_grammar.specs.declared.grammar.Grammar.{Grammar}
+use Rattle.lw_link_rules.specs.Setting.{Setting}
 use Rattle.lw_reading.specs.Laws.{IsReadOneWay}
 use Rattle.lw_rpc.specs.declared.message.Id.{Id}
 use Rattle.lw_rpc.specs.declared.message.Message.{Message}
@@ -50,29 +50,29 @@ module _ (phase : Phase) where
   notification_halts : (passage : Passage) → Halts passage → Halts (notification phase passage)
   notification_halts passage is = either Halts (phase.initialized && not phase.shut_down) passage (replies_at phase []) is tt
 
-module _ (g : Grammar) (tells : TellsTypes g) (reads : ReadsTexts g) (one_way : IsReadOneWay g) (answers : Answers) (found : AreFound answers) where
-  module _ (m : Documents) (valid : IsValid g m) (readable : HaveReadableTexts g m) (offers : TellsAllOffers g m) where
+module _ (setting : Setting) (tells : TellsTypes setting.grammar) (reads : ReadsTexts setting.grammar) (one_way : IsReadOneWay setting.grammar) (answers : Answers) (found : AreFound answers) where
+  module _ (m : Documents) (valid : IsValid setting m) (readable : HaveReadableTexts setting.grammar m) (offers : TellsAllOffers setting m) where
     -- ---- a question
 
-    same_text : (address : List ℕ) (d : Document) (n : Documents) → HaveSameContent m n → get n address ≡ Some d → IsReadable g d.text
+    same_text : (address : List ℕ) (d : Document) (n : Documents) → HaveSameContent m n → get n address ≡ Some d → IsReadable setting.grammar d.text
     same_text address d n same held = by (get m address) refl
       where
-        by : (o : Option Document) → get m address ≡ o → IsReadable g d.text
+        by : (o : Option Document) → get m address ≡ o → IsReadable setting.grammar d.text
         by None absent =
             absurd (none-some (content d) (sym (same address ∙ ap (option_map content) absent) ∙ ap (option_map content) held))
         by (Some e) there =
             let one = same_Some (content e) (content d) (sym (same address ∙ ap (option_map content) there) ∙ ap (option_map content) held) in
-            subst (IsReadable g) (ap (λ (x : List ℕ × Option ℤ × Bool). x.0) one) (readable address e there).0
+            subst (IsReadable setting.grammar) (ap (λ (x : List ℕ × Option ℤ × Bool). x.0) one) (readable address e there).0
 
     -- what a message does
     abbrev HasEffect : Message → Type 0
-    HasEffect message = (asked : List Asked) × (n : Documents) × (replies : List Reply) × TakesEffect g m message asked n replies × AreGiven answers asked
+    HasEffect message = (asked : List Asked) × (n : Documents) × (replies : List Reply) × TakesEffect setting m message asked n replies × AreGiven answers asked
 
-    question : (message : Message) → ((n : Documents) → HaveReadablePresentTexts g n → HaveSameContent m n → (reply : Reply) × RepliesTo g n message reply) →
+    question : (message : Message) → ((n : Documents) → HaveReadablePresentTexts setting.grammar n → HaveSameContent m n → (reply : Reply) × RepliesTo setting n message reply) →
         HasEffect message
     question message reply_over =
-        let end = has_end g m valid (have_links_and_lists g tells m readable) in
-        let same = to_end_same g m end.0 end.1 end.2 in
+        let end = has_end setting m valid (have_links_and_lists setting tells m readable) in
+        let same = to_end_same setting m end.0 end.1 end.2 in
         let reply = reply_over end.0 (λ address d held. same_text address d end.0 same held) same in
         ([], end.0, map as_reply end.1 ++ reply.0 ∷ [], asks end.1 reply.0 end.2 reply.1, none_given answers found)
 
@@ -96,28 +96,28 @@ module _ (g : Grammar) (tells : TellsTypes g) (reads : ReadsTexts g) (one_way : 
           let does = some_edit m (λ a d held. (readable a d held).0.utf8) address version changes brings in
           inr ([], does.0, does.1, edits does.2, none_given answers found)
       stops_or_does (message.DidClose address) brings =
-          let does = some_closing g tells answers found m valid readable address in inr (does.0, does.1, does.2, closes does.3, does.4)
+          let does = some_closing setting tells answers found m valid readable address in inr (does.0, does.1, does.2, closes does.3, does.4)
       stops_or_does (message.DidChangeWatchedFiles changes) brings =
-          let does = some_changes g tells answers found reads one_way m changes valid readable in inr (does.0, does.1, does.2, sees does.3, does.4)
+          let does = some_changes setting tells answers found reads one_way m changes valid readable in inr (does.0, does.1, does.2, sees does.3, does.4)
       stops_or_does (message.Definition id address at) brings =
           inr (question (message.Definition id address at)
-          (λ n present same. let told = some_definition_told g tells n present address at in (_, ask.definition told.1)))
+          (λ n present same. let told = some_definition_told setting tells n present address at in (_, ask.definition told.1)))
       stops_or_does (message.References id address at declaration) brings =
           inr (question (message.References id address at declaration)
-          (λ n present same. let told = some_references_told g tells n present address at declaration in (_, ask.references told.1)))
+          (λ n present same. let told = some_references_told setting tells n present address at declaration in (_, ask.references told.1)))
       stops_or_does (message.Rename id address at new) brings =
           inr (question (message.Rename id address at new)
-          (λ n present same. let told = some_rename_told g tells n present address at one_way reads id new in (told.0, ask.rename told.1)))
+          (λ n present same. let told = some_rename_told setting tells n present address at one_way reads id new in (told.0, ask.rename told.1)))
       stops_or_does (message.Completion id address at) brings =
           inr (question (message.Completion id address at)
-          (λ n present same. let told = some_completion_told g tells n present address at (offers n same address) in (_, ask.completion told.1)))
+          (λ n present same. let told = some_completion_told setting tells n present address at (offers n same address) in (_, ask.completion told.1)))
 
   -- so it is answered
   abbrev HasAnswer : Standing → Message → Type 0
   HasAnswer s m =
-      (asked : List Asked) × (t : Standing) × (replies : List Reply) × (ended : Ended) × Answered g s m asked t replies ended × AreGiven answers asked
+      (asked : List Asked) × (t : Standing) × (replies : List Reply) × (ended : Ended) × Answered setting s m asked t replies ended × AreGiven answers asked
 
-  pub some_answer : (s : Standing) → IsValid g s.documents → HaveReadableTexts g s.documents → TellsAllOffers g s.documents → (m : Message) → BringsTexts m →
+  pub some_answer : (s : Standing) → IsValid setting s.documents → HaveReadableTexts setting.grammar s.documents → TellsAllOffers setting s.documents → (m : Message) → BringsTexts m →
       HasAnswer s m
   some_answer s valid readable offers m brings = by (gate s.phase m) refl (stops_or_does s.documents valid readable offers s.phase m brings)
     where

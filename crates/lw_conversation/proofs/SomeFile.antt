@@ -8,7 +8,7 @@ use Rattle.std.proofs.lemmas.List.Elements.{All-append, All-cons}
 use Rattle.std.proofs.lemmas.Option.{same_Some, none-some}
 use Rattle.std.proofs.lemmas.Str.{IsUtf8-from_is_utf8, is_utf8-from_IsUtf8}
 use Rattle.percent_encoding.specs.Percent.{percent_decode}
-use Rattle.lw_grammar.specs.declared.grammar.Grammar.{Grammar}
+use Rattle.lw_link_rules.specs.Setting.{Setting}
 use Rattle.lw_io.specs.Paths.{HasNoPath, IsPathOf, before_query}
 use Rattle.lw_io.specs.declared.store.Found.{Found}
 use Rattle.lw_io.specs.declared.store.Found.TheVariants.{Text, Absent, NotUtf8, TooLong, Failed, NoMemory}
@@ -150,39 +150,39 @@ open_or_not m address = by (get m address) refl
     by None absent = inr (λ d held. absurd (none-some d (sym absent ∙ held)))
     by (Some d) held = of_flag d held d.is_open refl
 
-module _ (g : Grammar) (tells : TellsTypes g) where
-  taken_readable : (m : Documents) (address : List ℕ) → HaveReadableTexts g m → HaveReadableTexts g (remove m address)
+module _ (setting : Setting) (tells : TellsTypes setting.grammar) where
+  taken_readable : (m : Documents) (address : List ℕ) → HaveReadableTexts setting.grammar m → HaveReadableTexts setting.grammar (remove m address)
   taken_readable m address readable other d held = by (one_or_two other address)
     where
-      by : (other ≡ address) ⊎ (other ≢ address) → IsReadable g d.text × IfSome d.shown (IsReadable g)
+      by : (other ≡ address) ⊎ (other ≢ address) → IsReadable setting.grammar d.text × IfSome d.shown (IsReadable setting.grammar)
       by (inl same) = absurd (none-some d (sym (taken_here m address) ∙ ap (get (remove m address)) (sym same) ∙ held))
       by (inr apart) = readable other d (sym (taken_elsewhere m address other apart) ∙ held)
 
-  module _ (m : Documents) (valid : IsValid g m) (readable : HaveReadableTexts g m) (address : List ℕ) where
+  module _ (m : Documents) (valid : IsValid setting m) (readable : HaveReadableTexts setting.grammar m) (address : List ℕ) where
     abbrev left : Documents
     left = remove m address
 
-    settles : (other : List ℕ) (e : Document) → other ≢ address → get left other ≡ Some e → (f : Document) × Settles g (shown_texts m) (shown_texts left) other e f
+    settles : (other : List ℕ) (e : Document) → other ≢ address → get left other ≡ Some e → (f : Document) × Settles setting (shown_texts m) (shown_texts left) other e f
     settles other e apart there = elim (cases_lt (rank e.state) 4) [ inl low ↦ (e, settling.not_linked low) | inr high ↦ linked high ]
       where
         was : get m other ≡ Some e
         was = sym (taken_elsewhere m address other apart) ∙ there
 
-        linked : 4 ≤ rank e.state → (f : Document) × Settles g (shown_texts m) (shown_texts left) other e f
+        linked : 4 ≤ rank e.state → (f : Document) × Settles setting (shown_texts m) (shown_texts left) other e f
         linked high =
             let see = valid.shown other e was (omega (arith, high)) in
-            let before_is = have_links_and_lists g tells m readable (shown_texts m) (λ a. inl refl) other e.text (seen m other e was ∙ see) in
+            let before_is = have_links_and_lists setting tells m readable (shown_texts m) (λ a. inl refl) other e.text (seen m other e was ∙ see) in
             let after_is =
-            have_links_and_lists g tells left (taken_readable m address readable) (shown_texts left) (λ a. inl refl) other e.text
+            have_links_and_lists setting tells left (taken_readable m address readable) (shown_texts left) (λ a. inl refl) other e.text
             (seen left other e there ∙ see) in
-            by (compared (AreLinks g (shown_texts m) other) (AreLinks g (shown_texts left) other) one_list_of_links before_is.0 after_is.0)
-            (compared (AreDiagnostics g (shown_texts m) other) (AreDiagnostics g (shown_texts left) other) one_list before_is.1 after_is.1) high
+            by (compared (AreLinks setting (shown_texts m) other) (AreLinks setting (shown_texts left) other) one_list_of_links before_is.0 after_is.0)
+            (compared (AreDiagnostics setting (shown_texts m) other) (AreDiagnostics setting (shown_texts left) other) one_list before_is.1 after_is.1) high
           where
-            by : Differ (AreLinks g (shown_texts m) other) (AreLinks g (shown_texts left) other) ⊎
-                Agree (AreLinks g (shown_texts m) other) (AreLinks g (shown_texts left) other) →
-                Differ (AreDiagnostics g (shown_texts m) other) (AreDiagnostics g (shown_texts left) other) ⊎
-                Agree (AreDiagnostics g (shown_texts m) other) (AreDiagnostics g (shown_texts left) other) → 4 ≤ rank e.state →
-                (f : Document) × Settles g (shown_texts m) (shown_texts left) other e f
+            by : Differ (AreLinks setting (shown_texts m) other) (AreLinks setting (shown_texts left) other) ⊎
+                Agree (AreLinks setting (shown_texts m) other) (AreLinks setting (shown_texts left) other) →
+                Differ (AreDiagnostics setting (shown_texts m) other) (AreDiagnostics setting (shown_texts left) other) ⊎
+                Agree (AreDiagnostics setting (shown_texts m) other) (AreDiagnostics setting (shown_texts left) other) → 4 ≤ rank e.state →
+                (f : Document) × Settles setting (shown_texts m) (shown_texts left) other e f
             by (inl differ) told high = (_, settling.links_differ high differ)
             by (inr agree) told high = elim (cases_lt (rank e.state) 6) [
               | inl under ↦ (e, settling.links_agree high under agree)
@@ -192,48 +192,48 @@ module _ (g : Grammar) (tells : TellsTypes g) where
               ]
             ]
 
-    pub some_removal : (d : Document) → get m address ≡ Some d → (n : Documents) × (replies : List Reply) × Removes g m address n replies
-    some_removal d held = let end = settled g (shown_texts m) left address settles in (end.0, _, record { d = d; held = held; settled = end.1; told = refl })
+    pub some_removal : (d : Document) → get m address ≡ Some d → (n : Documents) × (replies : List Reply) × Removes setting m address n replies
+    some_removal d held = let end = settled setting (shown_texts m) left address settles in (end.0, _, record { d = d; held = held; settled = end.1; told = refl })
 
   -- ---- what can still be read
 
-  same_readable : (before after : Texts) (address : List ℕ) (d e : Document) → Settles g before after address d e → IsReadable g d.text × IfSome d.shown (IsReadable g) →
-      IsReadable g e.text × IfSome e.shown (IsReadable g)
+  same_readable : (before after : Texts) (address : List ℕ) (d e : Document) → Settles setting before after address d e → IsReadable setting.grammar d.text × IfSome d.shown (IsReadable setting.grammar) →
+      IsReadable setting.grammar e.text × IfSome e.shown (IsReadable setting.grammar)
   same_readable before after address d e (settling.links_differ high differ) readable = readable
   same_readable before after address d e (settling.list_differs is agree differ) readable = readable
   same_readable before after address d e (settling.list_agrees is agree also) readable = readable
   same_readable before after address d e (settling.links_agree high under agree) readable = readable
   same_readable before after address d e (settling.not_linked low) readable = readable
 
-  settled_readable_at : (before after : Texts) (other : List ℕ) (o p : Option Document) (f : Document) → SettlesAt g before after other o p → p ≡ Some f →
-      ((d : Document) → o ≡ Some d → IsReadable g d.text × IfSome d.shown (IsReadable g)) → IsReadable g f.text × IfSome f.shown (IsReadable g)
+  settled_readable_at : (before after : Texts) (other : List ℕ) (o p : Option Document) (f : Document) → SettlesAt setting before after other o p → p ≡ Some f →
+      ((d : Document) → o ≡ Some d → IsReadable setting.grammar d.text × IfSome d.shown (IsReadable setting.grammar)) → IsReadable setting.grammar f.text × IfSome f.shown (IsReadable setting.grammar)
   settled_readable_at before after other o p f settling.none is each = absurd (none-some f is)
   settled_readable_at before after other o p f (settling.held {d = d} {e = e} does) is each =
-      subst (λ (x : Document). IsReadable g x.text × IfSome x.shown (IsReadable g)) (same_Some e f is) (same_readable before after other d e does (each d refl))
+      subst (λ (x : Document). IsReadable setting.grammar x.text × IfSome x.shown (IsReadable setting.grammar)) (same_Some e f is) (same_readable before after other d e does (each d refl))
 
-  removal_readable : (m : Documents) (address : List ℕ) (n : Documents) (replies : List Reply) → Removes g m address n replies → HaveReadableTexts g m →
-      HaveReadableTexts g n
+  removal_readable : (m : Documents) (address : List ℕ) (n : Documents) (replies : List Reply) → Removes setting m address n replies → HaveReadableTexts setting.grammar m →
+      HaveReadableTexts setting.grammar n
   removal_readable m address n replies removes readable other f held = by (one_or_two other address)
     where
-      by : (other ≡ address) ⊎ (other ≢ address) → IsReadable g f.text × IfSome f.shown (IsReadable g)
+      by : (other ≡ address) ⊎ (other ≢ address) → IsReadable setting.grammar f.text × IfSome f.shown (IsReadable setting.grammar)
       by (inl same) =
           absurd (none-some f (sym (taken_here m address) ∙ sym removes.settled.here ∙ ap (get n) (sym same) ∙ held))
       by (inr apart) =
           settled_readable_at (shown_texts m) (shown_texts (remove m address)) other (get (remove m address) other) (get n other) f
           (removes.settled.others other apart) held (λ d there. taken_readable m address readable other d there)
 
-  put_readable : (m : Documents) (address text : List ℕ) (version : _) (is_open : Bool) → IsReadable g text → HaveReadableTexts g m →
-      HaveReadableTexts g (put m address text version is_open)
+  put_readable : (m : Documents) (address text : List ℕ) (version : _) (is_open : Bool) → IsReadable setting.grammar text → HaveReadableTexts setting.grammar m →
+      HaveReadableTexts setting.grammar (put m address text version is_open)
   put_readable m address text version is_open reads readable other f held = by (one_or_two other address)
     where
       of_put : (o : Option Document) → get m address ≡ o →
-          IsReadable g (with_text o text version is_open).text × IfSome (with_text o text version is_open).shown (IsReadable g)
+          IsReadable setting.grammar (with_text o text version is_open).text × IfSome (with_text o text version is_open).shown (IsReadable setting.grammar)
       of_put None absent = (reads, tt)
       of_put (Some d) there = (reads, (readable address d there).1)
 
-      by : (other ≡ address) ⊎ (other ≢ address) → IsReadable g f.text × IfSome f.shown (IsReadable g)
+      by : (other ≡ address) ⊎ (other ≢ address) → IsReadable setting.grammar f.text × IfSome f.shown (IsReadable setting.grammar)
       by (inl same) =
-          subst (λ (x : Document). IsReadable g x.text × IfSome x.shown (IsReadable g))
+          subst (λ (x : Document). IsReadable setting.grammar x.text × IfSome x.shown (IsReadable setting.grammar))
           (same_Some (with_text (get m address) text version is_open) f
           (sym (put_here m address (with_text (get m address) text version is_open)) ∙ ap (get (put m address text version is_open)) (sym same) ∙ held))
           (of_put (get m address) refl)
@@ -243,9 +243,9 @@ module _ (g : Grammar) (tells : TellsTypes g) where
   module _ (answers : Answers) (found : AreFound answers) where
     -- what a closing comes to
     abbrev pub HasClosing : Documents → List ℕ → Type 0
-    HasClosing m address = (asked : List Asked) × (n : Documents) × (replies : List Reply) × ClosesDocument g m address asked n replies × AreGiven answers asked
+    HasClosing m address = (asked : List Asked) × (n : Documents) × (replies : List Reply) × ClosesDocument setting m address asked n replies × AreGiven answers asked
 
-    pub some_closing : (m : Documents) → IsValid g m → HaveReadableTexts g m → (address : List ℕ) → HasClosing m address
+    pub some_closing : (m : Documents) → IsValid setting m → HaveReadableTexts setting.grammar m → (address : List ℕ) → HasClosing m address
     some_closing m valid readable address = by (open_or_not m address)
       where
         by_answer : (d : Document) → IsOpenAt m address d → (asked : List Asked) → AreGiven answers asked → (answer : Found) → FindsFile address asked answer →
@@ -266,13 +266,13 @@ module _ (g : Grammar) (tells : TellsTypes g) where
         by (inr shut) = ([], _, _, closing.unknown shut, none_given answers found)
 
     -- ---- files that have changed
-    module _ (reads : ReadsTexts g) where
-      readable_text : (text : List ℕ) → IsUtf8 text → IsReadable g text
+    module _ (reads : ReadsTexts setting.grammar) where
+      readable_text : (text : List ℕ) → IsUtf8 text → IsReadable setting.grammar text
       readable_text text utf8 = let is = reads text utf8 in record { utf8 = utf8; parsed = is.0; reads = is.1 }
 
       abbrev HasLoading : Documents → List ℕ → Type 0
       HasLoading m address =
-          (asked : List Asked) × (n : Documents) × (replies : List Reply) × LoadsAgain g m address asked n replies × AreGiven answers asked × HaveReadableTexts g n
+          (asked : List Asked) × (n : Documents) × (replies : List Reply) × LoadsAgain setting m address asked n replies × AreGiven answers asked × HaveReadableTexts setting.grammar n
 
       held_or_not : (m : Documents) (address : List ℕ) → ((d : Document) × (get m address ≡ Some d)) ⊎ (get m address ≡ None)
       held_or_not m address = by (get m address) refl
@@ -281,7 +281,7 @@ module _ (g : Grammar) (tells : TellsTypes g) where
           by None absent = inr absent
           by (Some d) held = inl (d, held)
 
-      some_loading : (m : Documents) → IsValid g m → HaveReadableTexts g m → (address : List ℕ) → HasLoading m address
+      some_loading : (m : Documents) → IsValid setting m → HaveReadableTexts setting.grammar m → (address : List ℕ) → HasLoading m address
       some_loading m valid readable address =
           let file = some_found answers found address in by file.asked file.given file.answer file.finds file.memory file.utf8
         where
@@ -315,9 +315,9 @@ module _ (g : Grammar) (tells : TellsTypes g) where
 
       abbrev HasChange : Documents → List ℕ → FileChangeKind → Type 0
       HasChange m address kind =
-          (asked : List Asked) × (n : Documents) × (replies : List Reply) × SeesChange g m address kind asked n replies × AreGiven answers asked × HaveReadableTexts g n
+          (asked : List Asked) × (n : Documents) × (replies : List Reply) × SeesChange setting m address kind asked n replies × AreGiven answers asked × HaveReadableTexts setting.grammar n
 
-      some_change : (m : Documents) → IsValid g m → HaveReadableTexts g m → (address : List ℕ) (kind : FileChangeKind) → HasChange m address kind
+      some_change : (m : Documents) → IsValid setting m → HaveReadableTexts setting.grammar m → (address : List ℕ) (kind : FileChangeKind) → HasChange m address kind
       some_change m valid readable address kind = by (open_or_not m address) (deleted_or_not kind)
         where
           by : ((d : Document) × IsOpenAt m address d) ⊎ IsUnknown m address → (kind ≡ Deleted) ⊎ (kind ≢ Deleted) → HasChange m address kind
@@ -332,11 +332,11 @@ module _ (g : Grammar) (tells : TellsTypes g) where
 
       -- what changes of files come to
       abbrev pub HasChanges : Documents → List FileChange → Type 0
-      HasChanges m changes = (asked : List Asked) × (n : Documents) × (replies : List Reply) × SeesChanges g m changes asked n replies × AreGiven answers asked
+      HasChanges m changes = (asked : List Asked) × (n : Documents) × (replies : List Reply) × SeesChanges setting m changes asked n replies × AreGiven answers asked
 
-      pub some_changes : IsReadOneWay g → (m : Documents) (changes : List FileChange) → IsValid g m → HaveReadableTexts g m → HasChanges m changes
+      pub some_changes : IsReadOneWay setting.grammar → (m : Documents) (changes : List FileChange) → IsValid setting m → HaveReadableTexts setting.grammar m → HasChanges m changes
       some_changes one_way m [] valid readable = ([], m, [], watching.none, none_given answers found)
       some_changes one_way m (c ∷ cs) valid readable =
           let one = some_change m valid readable c.uri c.kind in
-          let others = some_changes one_way one.1 cs (change_valid g one_way m c.uri c.kind one.0 one.1 one.2 one.3 valid) one.5 in
+          let others = some_changes one_way one.1 cs (change_valid setting one_way m c.uri c.kind one.0 one.1 one.2 one.3 valid) one.5 in
           (one.0 ++ others.0, others.1, one.2 ++ others.2, watching.change one.3 others.3, All-append (λ a. a.answer ≡ answers a.path) one.0 others.0 one.4 others.4)

@@ -6,6 +6,7 @@ use Rattle.std.proofs.lemmas.Option.{same_Some, none-some, slice_get_within, sli
 use Rattle.lw_base.specs.declared.numbers.NodeId.{NodeId}
 use Rattle.lw_base.specs.declared.token.Span.{Span}
 use Rattle.lw_grammar.specs.declared.grammar.Grammar.{Grammar}
+use Rattle.lw_link_rules.specs.Setting.{Setting}
 use Rattle.lw_tree.specs.declared.node.Reference.{Reference}
 use Rattle.lw_tree.specs.Parts.{Parts, name_of}
 use Rattle.lw_reading.specs.Reading.{Reads}
@@ -19,7 +20,7 @@ use Rattle.lw_scoping.specs.Links.{Fits, Link, LinksTo, Trees, own, out, nowhere
 use Rattle.lw_scoping.specs.Outward.{ContainersComeFirst}
 use Rattle.lw_scoping.proofs.Once.{one_target}
 use Rattle.lw_link_rules.specs.Links as of_text
-use Rattle.lw_link_rules.specs.Links.{AreTreesOfTexts, IsNumberBelow, IsTreeOfText, Texts}
+use Rattle.lw_link_rules.specs.Links.{AreTreesOfTexts, IsNumberBelow, IsTreeOfText, Texts, rules_of}
 use Rattle.lw_machine.specs.Readable.{AreReadable, IsReadable}
 use Rattle.lw_machine.specs.Telling.{TellsTypes}
 use Rattle.lw_machine.proofs.Comparing.{Compared, compared, before, same, after, further, order, same_number, same_text}
@@ -93,16 +94,16 @@ module _ (g : Grammar) where
       marks.of_text g text (λ tree. All (λ r. r.owner.0 < length tree.nodes) tree.refs)
       (λ m seen tokens tree is. tree_owns is.grown tokens tree.name tree is.parts)
 
-module _ (g : Grammar) (tells : TellsTypes g) (addresses : List (List ℕ)) (texts : Texts) (readable : AreReadable g addresses texts) where
+module _ (setting : Setting) (tells : TellsTypes setting.grammar) (addresses : List (List ℕ)) (texts : Texts) (readable : AreReadable setting.grammar addresses texts) where
   pub record HasTrees : Type 0 where
     pub trees : Trees
-    pub are_trees : AreTreesOfTexts g texts trees
+    pub are_trees : AreTreesOfTexts setting.grammar texts trees
 
-  tree_of : (o : Option (List ℕ)) → ((text : List ℕ) → o ≡ Some text → IsReadable g text) → (tree : Option Parts) × IsTreeOfText g o tree
+  tree_of : (o : Option (List ℕ)) → ((text : List ℕ) → o ≡ Some text → IsReadable setting.grammar text) → (tree : Option Parts) × IsTreeOfText setting.grammar o tree
   tree_of None each = (None, of_text.no_text)
   tree_of (Some text) each = let is = each text refl in by is.parsed is.reads
     where
-      by : (parsed : Parsed) → Reads g text parsed → (tree : Option Parts) × IsTreeOfText g (Some text) tree
+      by : (parsed : Parsed) → Reads setting.grammar text parsed → (tree : Option Parts) × IsTreeOfText setting.grammar (Some text) tree
       by (Whole tree) reads = (Some tree, of_text.whole reads)
       by (Broken issue) reads = (None, of_text.broken reads)
 
@@ -111,18 +112,18 @@ module _ (g : Grammar) (tells : TellsTypes g) (addresses : List (List ℕ)) (tex
       let each = λ (address : List ℕ). tree_of (texts address) (λ text there. (readable address text there).1) in
       record { trees = λ address. (each address).0; are_trees = λ address. (each address).1 }
 
-  module _ (trees : Trees) (are_trees : AreTreesOfTexts g texts trees) where
+  module _ (trees : Trees) (are_trees : AreTreesOfTexts setting.grammar texts trees) where
     -- a tree is that of a text
     pub record IsOfText (address : List ℕ) (tree : Parts) : Type 0 where
       pub text : List ℕ
       pub there : texts address ≡ Some text
-      pub reads : Reads g text (Whole tree)
+      pub reads : Reads setting.grammar text (Whole tree)
 
-    of_some_text : (address : List ℕ) (tree : Parts) (o : Option (List ℕ)) (p : Option Parts) → texts address ≡ o → IsTreeOfText g o p → p ≡ Some tree →
+    of_some_text : (address : List ℕ) (tree : Parts) (o : Option (List ℕ)) (p : Option Parts) → texts address ≡ o → IsTreeOfText setting.grammar o p → p ≡ Some tree →
         IsOfText address tree
     of_some_text address tree o p at of_text.no_text is = absurd (none-some tree is)
     of_some_text address tree o p at (of_text.whole {text = t} {tree = u} reads) is =
-        record { text = t; there = at; reads = subst (λ (x : Parts). Reads g t (Whole x)) (same_Some u tree is) reads }
+        record { text = t; there = at; reads = subst (λ (x : Parts). Reads setting.grammar t (Whole x)) (same_Some u tree is) reads }
     of_some_text address tree o p at (of_text.broken reads) is = absurd (none-some tree is)
 
     pub text_of : (address : List ℕ) (tree : Parts) → trees address ≡ Some tree → IsOfText address tree
@@ -132,21 +133,21 @@ module _ (g : Grammar) (tells : TellsTypes g) (addresses : List (List ℕ)) (tex
     stand_among address tree is = let of = text_of address tree is in (readable address of.text of.there).0
 
     abbrev Leads : List ℕ → Parts → Reference → Link → Type 0
-    Leads address tree r l = LinksTo (IsNumberBelow g) trees address tree r l
+    Leads address tree r l = LinksTo (rules_of setting) trees address tree r l
 
     pub some_link : (address : List ℕ) (tree : Parts) → trees address ≡ Some tree → (r : Reference) → Contains tree.refs r → (l : Link) × Leads address tree r l
     some_link address tree is r has =
         let of = text_of address tree is in
-        link addresses trees stand_among (IsNumberBelow g) tells address tree (outwards g of.text tree of.reads) r
+        link addresses trees stand_among (rules_of setting) tells address tree (outwards setting.grammar of.text tree of.reads) r
         (subst (λ (x : Reference). x.owner.0 < length tree.nodes) has.2
-        (All-get_or (λ (x : Reference). x.owner.0 < length tree.nodes) tree.refs has.0 r has.1 (owners g of.text tree of.reads)))
+        (All-get_or (λ (x : Reference). x.owner.0 < length tree.nodes) tree.refs has.0 r has.1 (owners setting.grammar of.text tree of.reads)))
 
     -- ---- what is meant
-    pub some_meant : (address : List ℕ) (offset : ℕ) → (l : Link) × IsMeantAt (IsNumberBelow g) trees address offset l
+    pub some_meant : (address : List ℕ) (offset : ℕ) → (l : Link) × IsMeantAt (rules_of setting) trees address offset l
     some_meant address offset = by (trees address) refl
       where
         leads : (tree : Parts) → trees address ≡ Some tree → (place : Option Place) → IsPlaceAt tree offset place →
-            (l : Link) × LeadsFrom (IsNumberBelow g) trees address tree place l
+            (l : Link) × LeadsFrom (rules_of setting) trees address tree place l
         leads tree is None there = (None, mention.no_place)
         leads tree is (Some (Named n)) there = (Some (address, n.0), mention.named)
         leads tree is (Some (Refers i)) there = reference (takes there)
@@ -155,11 +156,11 @@ module _ (g : Grammar) (tells : TellsTypes g) (addresses : List (List ℕ)) (tex
             takes (places.inside first) = (first.span, first.takes_up)
             takes (places.at_end none first) = (first.span, first.takes_up)
 
-            reference : (s : Span) × TakesUp tree (Refers i) s → (l : Link) × LeadsFrom (IsNumberBelow g) trees address tree (Some (Refers i)) l
+            reference : (s : Span) × TakesUp tree (Refers i) s → (l : Link) × LeadsFrom (rules_of setting) trees address tree (Some (Refers i)) l
             reference (s, places.reference {r = r} at) =
                 let to = some_link address tree is r (contained tree.refs i.0 r at) in (to.0, mention.refers at to.1)
 
-        by : (o : Option Parts) → trees address ≡ o → (l : Link) × IsMeantAt (IsNumberBelow g) trees address offset l
+        by : (o : Option Parts) → trees address ≡ o → (l : Link) × IsMeantAt (rules_of setting) trees address offset l
         by None absent = (None, mention.treeless absent)
         by (Some tree) is =
             let place = some_place tree offset in
@@ -174,7 +175,7 @@ module _ (g : Grammar) (tells : TellsTypes g) (addresses : List (List ℕ)) (tex
         l ≡ Some target → HasName target
     name_of_target address tree r target l is (own {n = n} owns) to = subst HasName (same_Some (address, n) target to) (by owns.first)
       where
-        by : {xs : List ℕ} → IsFirstIn (Fits (IsNumberBelow g) tree r) xs (Some n) → HasName (address, n)
+        by : {xs : List ℕ} → IsFirstIn (Fits (IsNumberBelow setting.grammar) tree r) xs (Some n) → HasName (address, n)
         by (found first) = (
           record { address = address; span = first.does.1.span },
           record { tree = tree; is_tree = is; text = r.name; named = first.does.1.named; here = refl },
@@ -186,7 +187,7 @@ module _ (g : Grammar) (tells : TellsTypes g) (addresses : List (List ℕ)) (tex
         )
     name_of_target address tree r target l is (nowhere none misses) to = absurd (none-some target to)
 
-    meant_has_name : (address : List ℕ) (offset : ℕ) (target : List ℕ × ℕ) (l : Link) → IsMeantAt (IsNumberBelow g) trees address offset l → l ≡ Some target →
+    meant_has_name : (address : List ℕ) (offset : ℕ) (target : List ℕ × ℕ) (l : Link) → IsMeantAt (rules_of setting) trees address offset l → l ≡ Some target →
         HasName target
     meant_has_name address offset target l (mention.treeless absent) to = absurd (none-some target to)
     meant_has_name address offset target l (mention.at_place {tree = tree} is there leads) to = by _ _ there leads to
@@ -201,7 +202,7 @@ module _ (g : Grammar) (tells : TellsTypes g) (addresses : List (List ℕ)) (tex
         named n (places.inside first) = takes n first.span first.takes_up
         named n (places.at_end none first) = takes n first.span first.takes_up
 
-        by : (place : Option Place) (l : Link) → IsPlaceAt tree offset place → LeadsFrom (IsNumberBelow g) trees address tree place l → l ≡ Some target → HasName target
+        by : (place : Option Place) (l : Link) → IsPlaceAt tree offset place → LeadsFrom (rules_of setting) trees address tree place l → l ≡ Some target → HasName target
         by place l there mention.no_place to = absurd (none-some target to)
         by place l there (mention.named {n = n}) to = subst HasName (same_Some (address, n.0) target to) (named n there)
         by place l there (mention.refers {r = r} {link = k} at leads) to = name_of_target address tree r target k is leads to
@@ -222,16 +223,16 @@ module _ (g : Grammar) (tells : TellsTypes g) (addresses : List (List ℕ)) (tex
               one_listed (Uses address tree r) (mention_at address r) (subst (λ t. Leads address tree r (Some t)) here leads, refl) (λ e uses. uses.1)
           check place leads (inr apart) =
               none_listed (Uses address tree r)
-              (λ e uses. apart (same_Some place target (one_target (IsNumberBelow g) trees address tree r (Some place) (Some target) leads uses.0)))
+              (λ e uses. apart (same_Some place target (one_target (rules_of setting) trees address tree r (Some place) (Some target) leads uses.0)))
 
           by : ((l : Link) × Leads address tree r l) → Listed (Uses address tree r)
           by (None, leads) =
               none_listed (Uses address tree r)
-              (λ e uses. none-some target (one_target (IsNumberBelow g) trees address tree r None (Some target) leads uses.0))
+              (λ e uses. none-some target (one_target (rules_of setting) trees address tree r None (Some target) leads uses.0))
           by (Some place, leads) = check place leads (one_or_other place target)
 
       abbrev IsUse : Mention → Type 0
-      IsUse m = IsUseHere (IsNumberBelow g) trees target m
+      IsUse m = IsUseHere (rules_of setting) trees target m
 
       uses_at : (address : List ℕ) → Listed (λ (m : Mention). (address ≡ m.address) × IsUse m)
       uses_at address = by (trees address) refl
@@ -264,7 +265,7 @@ module _ (g : Grammar) (tells : TellsTypes g) (addresses : List (List ℕ)) (tex
           (each_listed (λ (address : List ℕ) (m : Mention). (address ≡ m.address) × IsUse m) addresses (λ address has. uses_at address))
 
       abbrev IsMention : Bool → Mention → Type 0
-      IsMention declaration m = IsMentionOf (IsNumberBelow g) trees declaration target m
+      IsMention declaration m = IsMentionOf (rules_of setting) trees declaration target m
 
       own_name : (declaration : Bool) → HasName target → Listed (λ (m : Mention). (declaration ≡ true) × IsNameHere trees target m)
       own_name false named = none_listed _ (λ m is. true≢false (sym is.0))
@@ -291,7 +292,7 @@ module _ (g : Grammar) (tells : TellsTypes g) (addresses : List (List ℕ)) (tex
           back m (mention.used uses_it) = inl uses_it
           back m (mention.declared counts is) = inr (counts, is)
 
-      pub some_mentions : (declaration : Bool) → HasName target → (mentions : List Mention) × AreMentionsOf (IsNumberBelow g) trees declaration target mentions
+      pub some_mentions : (declaration : Bool) → HasName target → (mentions : List Mention) × AreMentionsOf (rules_of setting) trees declaration target mentions
       some_mentions declaration named =
           let told = mentions_listed declaration named in
           let sorted = in_order MentionPrecedes mention_further mentions_stand told.0 in (
@@ -299,26 +300,26 @@ module _ (g : Grammar) (tells : TellsTypes g) (addresses : List (List ℕ)) (tex
             record { exact = λ m. (λ has. (told.1 m).0 ((sorted.1 m).0 has), λ is. (sorted.1 m).1 ((told.1 m).1 is)); ordered = sorted.2 },
           )
 
-    pub meant_named : (address : List ℕ) (offset : ℕ) (target : List ℕ × ℕ) → IsMeantAt (IsNumberBelow g) trees address offset (Some target) → HasName target
+    pub meant_named : (address : List ℕ) (offset : ℕ) (target : List ℕ × ℕ) → IsMeantAt (rules_of setting) trees address offset (Some target) → HasName target
     meant_named address offset target meant = meant_has_name address offset target (Some target) meant refl
 
   -- ---- what is asked for
-  pub some_definition : (address : List ℕ) (offset : ℕ) → (m : Option Mention) × IsDefinition g texts address offset m
+  pub some_definition : (address : List ℕ) (offset : ℕ) → (m : Option Mention) × IsDefinition setting texts address offset m
   some_definition address offset = let all = some_trees in by all.trees all.are_trees (some_meant all.trees all.are_trees address offset)
     where
-      by : (trees : Trees) (are_trees : AreTreesOfTexts g texts trees) → ((l : Link) × IsMeantAt (IsNumberBelow g) trees address offset l) →
-          (m : Option Mention) × IsDefinition g texts address offset m
+      by : (trees : Trees) (are_trees : AreTreesOfTexts setting.grammar texts trees) → ((l : Link) × IsMeantAt (rules_of setting) trees address offset l) →
+          (m : Option Mention) × IsDefinition setting texts address offset m
       by trees are_trees (None, meant) = (None, record { trees = trees; are_trees = are_trees; is_there = mention.nothing_meant meant })
       by trees are_trees (Some target, meant) =
           let named = meant_named trees are_trees address offset target meant in
           (Some named.0, record { trees = trees; are_trees = are_trees; is_there = mention.defined meant named.1 })
 
   pub some_references : (address : List ℕ) (offset : ℕ) (declaration : Bool) →
-      (mentions : Option (List Mention)) × AreReferences g texts address offset declaration mentions
+      (mentions : Option (List Mention)) × AreReferences setting texts address offset declaration mentions
   some_references address offset declaration = let all = some_trees in by all.trees all.are_trees (some_meant all.trees all.are_trees address offset)
     where
-      by : (trees : Trees) (are_trees : AreTreesOfTexts g texts trees) → ((l : Link) × IsMeantAt (IsNumberBelow g) trees address offset l) →
-          (mentions : Option (List Mention)) × AreReferences g texts address offset declaration mentions
+      by : (trees : Trees) (are_trees : AreTreesOfTexts setting.grammar texts trees) → ((l : Link) × IsMeantAt (rules_of setting) trees address offset l) →
+          (mentions : Option (List Mention)) × AreReferences setting texts address offset declaration mentions
       by trees are_trees (None, meant) = (None, record { trees = trees; are_trees = are_trees; are_there = mention.nothing_meant meant })
       by trees are_trees (Some target, meant) =
           let mentions = some_mentions trees are_trees target declaration (meant_named trees are_trees address offset target meant) in

@@ -7,7 +7,7 @@ use Rattle.std.specs.Str.{IsUtf8, bytes_eq}
 use Rattle.std.proofs.lemmas.Bool.{cases_order}
 use Rattle.std.proofs.lemmas.Option.{same_Some, none-some}
 use Rattle.lw_base.specs.declared.token.Span.{Span}
-use Rattle.lw_grammar.specs.declared.grammar.Grammar.{Grammar}
+use Rattle.lw_link_rules.specs.Setting.{Setting}
 use Rattle.lw_link_rules.specs.Links.{AreLinks, Texts}
 use Rattle.lw_link_rules.specs.Links as of_text
 use Rattle.lw_machine.specs.Documents.{Document, Documents, present_texts}
@@ -130,9 +130,9 @@ offers_stand x y = by (compared x.label y.label) (cases_order x.kind y.kind)
     by (same is) (inr (inr more)) = inr (inr (by_kind (sym is) more))
     by (same is) (inl at) = inr (inl (λ i. record { label = is i; kind = at i }))
 
-module _ (g : Grammar) (texts : Texts) (address text : List ℕ) (offset : ℕ) (told : TellsOffers g texts address text offset) where
+module _ (setting : Setting) (texts : Texts) (address text : List ℕ) (offset : ℕ) (told : TellsOffers setting texts address text offset) where
   abbrev IsOne : Offer → Type 0
-  IsOne offer = IsOffer g told.of told.lexicon told.trees address text offset offer
+  IsOne offer = IsOffer setting told.of told.lexicon told.trees address text offset offer
 
   offers_listed : Listed IsOne
   offers_listed =
@@ -148,7 +148,7 @@ module _ (g : Grammar) (texts : Texts) (address text : List ℕ) (offset : ℕ) 
   -- the offers in order, each of which is one
   pub record HasOffers : Type 0 where
     pub offers : List Offer
-    pub are : AreOffers g texts address text offset offers
+    pub are : AreOffers setting texts address text offset offers
     pub each : (offer : Offer) → Contains offers offer → IsOne offer
 
   pub some_offers : HasOffers
@@ -191,13 +191,13 @@ contained : {X : Type 0} (x : X) (xs : List X) → Among x xs → Contains xs x
 contained x xs (first {xs = rest}) = here x rest
 contained x xs (later {y = y} {xs = rest} among) = there y rest x (contained x rest among)
 
-module _ (g : Grammar) (tells : TellsTypes g) (m : Documents) (readable : HaveReadablePresentTexts g m) where
-  pub present_readable : AreReadable g (keys m) (present_texts m)
+module _ (setting : Setting) (tells : TellsTypes setting.grammar) (m : Documents) (readable : HaveReadablePresentTexts setting.grammar m) where
+  pub present_readable : AreReadable setting.grammar (keys m) (present_texts m)
   present_readable address text is = by (get m address) refl is
     where
-      by : (o : Option Document) → get m address ≡ o → option_map (λ (d : Document). d.text) o ≡ Some text → Contains (keys m) address × IsReadable g text
+      by : (o : Option Document) → get m address ≡ o → option_map (λ (d : Document). d.text) o ≡ Some text → Contains (keys m) address × IsReadable setting.grammar text
       by None absent at = absurd (none-some text at)
-      by (Some d) held at = (contained address (keys m) (held_among m address d held), subst (IsReadable g) (same_Some d.text text at) (readable address d held))
+      by (Some d) held at = (contained address (keys m) (held_among m address d held), subst (IsReadable setting.grammar) (same_Some d.text text at) (readable address d held))
 
   pub present_utf8 : (address text : List ℕ) → present_texts m address ≡ Some text → IsUtf8 text
   present_utf8 address text is = (present_readable address text is).1.utf8
@@ -205,18 +205,18 @@ module _ (g : Grammar) (tells : TellsTypes g) (m : Documents) (readable : HaveRe
   abbrev pub HasPresentText : List ℕ → Type 0
   HasPresentText address = HasText (present_texts m) present_utf8 address
 
-  pub mention_has_text : (trees : Trees) → of_text.AreTreesOfTexts g (present_texts m) trees → (declaration : Bool) (target : List ℕ × ℕ) (x : Mention) →
-      IsMentionOf (of_text.IsNumberBelow g) trees declaration target x → HasPresentText x.address
+  pub mention_has_text : (trees : Trees) → of_text.AreTreesOfTexts setting.grammar (present_texts m) trees → (declaration : Bool) (target : List ℕ × ℕ) (x : Mention) →
+      IsMentionOf (of_text.IsNumberBelow setting.grammar) trees declaration target x → HasPresentText x.address
   mention_has_text trees are declaration target x (mention.used uses_it) =
-      let of = text_of g tells (keys m) (present_texts m) present_readable trees are x.address uses_it.tree uses_it.is_tree in (of.text, of.there)
+      let of = text_of setting tells (keys m) (present_texts m) present_readable trees are x.address uses_it.tree uses_it.is_tree in (of.text, of.there)
   mention_has_text trees are declaration target x (mention.declared counts name) =
-      let of = text_of g tells (keys m) (present_texts m) present_readable trees are target.0 name.tree name.is_tree in
+      let of = text_of setting tells (keys m) (present_texts m) present_readable trees are target.0 name.tree name.is_tree in
       (of.text, ap (present_texts m) name.here ∙ of.there)
 
   module _ (address : List ℕ) (at : Pos) where
     -- a position means a byte of the text that is held there
     pub data IsThere : Type 0 where
-      held : (offset : ℕ) → IsAskedAt g m address at offset → IsThere
+      held : (offset : ℕ) → IsAskedAt setting m address at offset → IsThere
       not_held : get m address ≡ None → IsThere
 
     pub asked_at : IsThere
@@ -227,83 +227,83 @@ module _ (g : Grammar) (tells : TellsTypes g) (m : Documents) (readable : HaveRe
         by (Some d) is =
             let place = IsOffset-some Utf16 d.text at (readable address d is).utf8 in held place.0 (record { document = d; held = is; means = place.3 })
 
-    pub some_definition_told : (outcome : Outcome) × TellsDefinition g m address at outcome
+    pub some_definition_told : (outcome : Outcome) × TellsDefinition setting m address at outcome
     some_definition_told = by asked_at
       where
-        tell : (offset : ℕ) → IsAskedAt g m address at offset → ((x : Option Mention) × IsDefinition g (present_texts m) address offset x) →
-            (outcome : Outcome) × TellsDefinition g m address at outcome
+        tell : (offset : ℕ) → IsAskedAt setting m address at offset → ((x : Option Mention) × IsDefinition setting (present_texts m) address offset x) →
+            (outcome : Outcome) × TellsDefinition setting m address at outcome
         tell offset is (None, nothing) = (Nothing, ask.nothing is nothing)
         tell offset is (Some x, defined) =
             let l = some_location (present_texts m) present_utf8 x (by_name defined.is_there) in (Spot l.0, ask.spot is defined l.1)
           where
-            by_name : IsDefinitionAt (of_text.IsNumberBelow g) defined.trees address offset (Some x) → HasPresentText x.address
+            by_name : IsDefinitionAt (of_text.IsNumberBelow setting.grammar) defined.trees address offset (Some x) → HasPresentText x.address
             by_name (mention.defined {target = target} meant name) = mention_has_text defined.trees defined.are_trees true target x (mention.declared refl name)
 
-        by : IsThere → (outcome : Outcome) × TellsDefinition g m address at outcome
+        by : IsThere → (outcome : Outcome) × TellsDefinition setting m address at outcome
         by (not_held none) = (Nothing, ask.not_held none)
-        by (held offset is) = tell offset is (some_definition g tells (keys m) (present_texts m) present_readable address offset)
+        by (held offset is) = tell offset is (some_definition setting tells (keys m) (present_texts m) present_readable address offset)
 
-    pub some_references_told : (declaration : Bool) → (outcome : Outcome) × TellsReferences g m address at declaration outcome
+    pub some_references_told : (declaration : Bool) → (outcome : Outcome) × TellsReferences setting m address at declaration outcome
     some_references_told declaration = by asked_at
       where
-        tell : (offset : ℕ) → IsAskedAt g m address at offset →
-            ((x : Option (List Mention)) × AreReferences g (present_texts m) address offset declaration x) →
-            (outcome : Outcome) × TellsReferences g m address at declaration outcome
+        tell : (offset : ℕ) → IsAskedAt setting m address at offset →
+            ((x : Option (List Mention)) × AreReferences setting (present_texts m) address offset declaration x) →
+            (outcome : Outcome) × TellsReferences setting m address at declaration outcome
         tell offset is (None, nothing) = (Nothing, ask.nothing is nothing)
         tell offset is (Some mentions, are) =
             let ls = some_locations (present_texts m) present_utf8 mentions (each are.are_there) in (Spots ls.0, ask.spots is are ls.1)
           where
-            each : AreReferencesAt (of_text.IsNumberBelow g) are.trees address offset declaration (Some mentions) → (x : Mention) → Contains mentions x →
+            each : AreReferencesAt (of_text.IsNumberBelow setting.grammar) are.trees address offset declaration (Some mentions) → (x : Mention) → Contains mentions x →
                 HasPresentText x.address
             each (mention.mentioned {target = target} meant exactly) x has =
                 mention_has_text are.trees are.are_trees declaration target x ((exactly.exact x).0 has)
 
-        by : IsThere → (outcome : Outcome) × TellsReferences g m address at declaration outcome
+        by : IsThere → (outcome : Outcome) × TellsReferences setting m address at declaration outcome
         by (not_held none) = (Nothing, ask.not_held none)
-        by (held offset is) = tell offset is (some_references g tells (keys m) (present_texts m) present_readable address offset declaration)
+        by (held offset is) = tell offset is (some_references setting tells (keys m) (present_texts m) present_readable address offset declaration)
 
     -- where it is told which offers there are
-    pub some_completion_told : ((d : Document) (offset : ℕ) → get m address ≡ Some d → TellsOffers g (present_texts m) address d.text offset) →
-        (outcome : Outcome) × TellsCompletion g m address at outcome
+    pub some_completion_told : ((d : Document) (offset : ℕ) → get m address ≡ Some d → TellsOffers setting (present_texts m) address d.text offset) →
+        (outcome : Outcome) × TellsCompletion setting m address at outcome
     some_completion_told told = by asked_at
       where
-        by : IsThere → (outcome : Outcome) × TellsCompletion g m address at outcome
+        by : IsThere → (outcome : Outcome) × TellsCompletion setting m address at outcome
         by (not_held none) = (Offers [], ask.not_held none)
         by (held offset is) =
             let text = is.document.text in
-            let offers = some_offers g (present_texts m) address text offset (told is.document offset is.held) in
+            let offers = some_offers setting (present_texts m) address text offset (told is.document offset is.held) in
             let items =
-            some_items g (present_texts m) address text offset (told is.document offset is.held) (readable address is.document is.held).utf8 offers.offers
+            some_items setting (present_texts m) address text offset (told is.document offset is.held) (readable address is.document is.held).utf8 offers.offers
             offers.each in
             (Offers items.0, ask.offered is offers.are items.1)
 
     -- ---- renames
-    refusal_told : (offset : ℕ) (new : List ℕ) {refusal : Refusal} → IsRenamed g (present_texts m) address offset new (Err refusal) →
-        (text : List ℕ) × IsRefusalText g (present_texts m) refusal text
+    refusal_told : (offset : ℕ) (new : List ℕ) {refusal : Refusal} → IsRenamed setting (present_texts m) address offset new (Err refusal) →
+        (text : List ℕ) × IsRefusalText setting.grammar (present_texts m) refusal text
     refusal_told offset new (rename.no_name none) = (_, ask.no_name)
     refusal_told offset new (rename.refused are has (rename.unreadable there cannot) sooner) = (_, ask.not_parsed)
     refusal_told offset new (rename.refused are has (rename.reshaped was reads is utf8 read unlike) sooner) = (_, ask.shape)
     refusal_told offset new (rename.rebound {a = a} {i = i} {before = x} are kept is) =
-        let at = linked g (present_texts m) a i x is.was is.were is.led in
+        let at = linked setting (present_texts m) a i x is.was is.were is.led in
         let place = some_position at.text at.r.span.start (present_utf8 a at.text at.there) in
         (_, ask.rebound at.there at.reads at.at place.1)
 
-    renamed_have_texts : (offset : ℕ) (new : List ℕ) (mentions : List Mention) → IsRenamed g (present_texts m) address offset new (Ok mentions) → (x : Mention) →
+    renamed_have_texts : (offset : ℕ) (new : List ℕ) (mentions : List Mention) → IsRenamed setting (present_texts m) address offset new (Ok mentions) → (x : Mention) →
         Contains mentions x → HasPresentText x.address
     renamed_have_texts offset new mentions (rename.renamed are kept stay) x has =
         mention_has_text are.trees are.are_trees true are.target x ((are.are_mentions.exact x).0 has)
 
-    pub some_rename_told : IsReadOneWay g → ReadsTexts g → (id : Id) (new : List ℕ) → (reply : Reply) × TellsRename g m id address at new reply
+    pub some_rename_told : IsReadOneWay setting.grammar → ReadsTexts setting.grammar → (id : Id) (new : List ℕ) → (reply : Reply) × TellsRename setting m id address at new reply
     some_rename_told one_way reads id new = by asked_at
       where
-        tell : (offset : ℕ) → IsAskedAt g m address at offset →
-            ((outcome : Result (List Mention) Refusal) × IsRenamed g (present_texts m) address offset new outcome) → (reply : Reply) × TellsRename g m id address at new reply
+        tell : (offset : ℕ) → IsAskedAt setting m address at offset →
+            ((outcome : Result (List Mention) Refusal) × IsRenamed setting (present_texts m) address offset new outcome) → (reply : Reply) × TellsRename setting m id address at new reply
         tell offset is (Err refusal, refused) =
             let text = refusal_told offset new refused in (Error (Some id) REQUEST_FAILED text.0, ask.refused is refused text.1)
         tell offset is (Ok mentions, renames) =
             let files = some_file_edits (present_texts m) present_utf8 new mentions (renamed_have_texts offset new mentions renames) in
             (Done id (Edits files.0), ask.renames is renames files.1)
 
-        by : IsThere → (reply : Reply) × TellsRename g m id address at new reply
+        by : IsThere → (reply : Reply) × TellsRename setting m id address at new reply
         by (not_held none) = (_, ask.not_held none)
-        by (held offset is) = tell offset is (some_renaming g one_way tells (keys m) (present_texts m) present_readable reads new address offset)
+        by (held offset is) = tell offset is (some_renaming setting one_way tells (keys m) (present_texts m) present_readable reads new address offset)

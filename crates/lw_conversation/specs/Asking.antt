@@ -8,6 +8,7 @@ use Rattle.std.specs.FinMap.{get}
 use Rattle.std.specs.Str.{bytes_eq}
 use Rattle.lw_base.specs.declared.token.Span.{Span}
 use Rattle.lw_grammar.specs.declared.grammar.Grammar.{Grammar}
+use Rattle.lw_link_rules.specs.Setting.{Setting}
 use Rattle.lw_text.specs.Offset.{IsOffset}
 use Rattle.lw_text.specs.Position.{IsPosition}
 use Rattle.lw_text.specs.declared.place.Pos.{Pos}
@@ -89,7 +90,7 @@ pub record IsItemOf (text : List ℕ) (offset : ℕ) (o : Offer) (item : Complet
   pub begins : IsPosition text (length front) item.start
   pub ends : IsPosition text offset item.end
 
-module _ (g : Grammar) (m : Documents) where
+module _ (setting : Setting) (m : Documents) where
   -- a document is held at the address, and the position means this byte of its text
   pub record IsAskedAt (address : List ℕ) (at : Pos) (offset : ℕ) : Type 0 where
     pub document : Document
@@ -98,30 +99,30 @@ module _ (g : Grammar) (m : Documents) where
 
   pub data TellsDefinition (address : List ℕ) (at : Pos) : Outcome → Type 0 where
     not_held : get m address ≡ None → TellsDefinition address at Nothing
-    nothing : {offset : ℕ} → IsAskedAt address at offset → IsDefinition g (present_texts m) address offset None → TellsDefinition address at Nothing
-    spot : {offset : ℕ} {mention : Mention} {location : Location} → IsAskedAt address at offset → IsDefinition g (present_texts m) address offset (Some mention) →
+    nothing : {offset : ℕ} → IsAskedAt address at offset → IsDefinition setting (present_texts m) address offset None → TellsDefinition address at Nothing
+    spot : {offset : ℕ} {mention : Mention} {location : Location} → IsAskedAt address at offset → IsDefinition setting (present_texts m) address offset (Some mention) →
         IsLocationOf (present_texts m) mention location → TellsDefinition address at (Spot location)
 
   pub data TellsReferences (address : List ℕ) (at : Pos) (declaration : Bool) : Outcome → Type 0 where
     not_held : get m address ≡ None → TellsReferences address at declaration Nothing
-    nothing : {offset : ℕ} → IsAskedAt address at offset → AreReferences g (present_texts m) address offset declaration None → TellsReferences address at declaration Nothing
+    nothing : {offset : ℕ} → IsAskedAt address at offset → AreReferences setting (present_texts m) address offset declaration None → TellsReferences address at declaration Nothing
     spots : {offset : ℕ} {mentions : List Mention} {locations : List Location} → IsAskedAt address at offset →
-        AreReferences g (present_texts m) address offset declaration (Some mentions) → AllZip (IsLocationOf (present_texts m)) mentions locations →
+        AreReferences setting (present_texts m) address offset declaration (Some mentions) → AllZip (IsLocationOf (present_texts m)) mentions locations →
         TellsReferences address at declaration (Spots locations)
 
   pub data TellsRename (id : Id) (address : List ℕ) (at : Pos) (new : List ℕ) : Reply → Type 0 where
     not_held : get m address ≡ None → TellsRename id address at new (Error (Some id) REQUEST_FAILED (codes "There is no name here."))
-    refused : {offset : ℕ} {refusal : Refusal} {text : List ℕ} → IsAskedAt address at offset → IsRenamed g (present_texts m) address offset new (Err refusal) →
-        IsRefusalText g (present_texts m) refusal text → TellsRename id address at new (Error (Some id) REQUEST_FAILED text)
+    refused : {offset : ℕ} {refusal : Refusal} {text : List ℕ} → IsAskedAt address at offset → IsRenamed setting (present_texts m) address offset new (Err refusal) →
+        IsRefusalText setting.grammar (present_texts m) refusal text → TellsRename id address at new (Error (Some id) REQUEST_FAILED text)
     renames : {offset : ℕ} {mentions : List Mention} {files : List FileEdits} → IsAskedAt address at offset →
-        IsRenamed g (present_texts m) address offset new (Ok mentions) → AllZip (AreEditsOf (present_texts m) new) (by_document mentions) files →
+        IsRenamed setting (present_texts m) address offset new (Ok mentions) → AllZip (AreEditsOf (present_texts m) new) (by_document mentions) files →
         TellsRename id address at new (Done id (Edits files))
 
   -- all that is offered there, in order
   pub data TellsCompletion (address : List ℕ) (at : Pos) : Outcome → Type 0 where
     not_held : get m address ≡ None → TellsCompletion address at (Offers [])
     offered : {offset : ℕ} {offers : List Offer} {items : List CompletionItem} → (asked : IsAskedAt address at offset) →
-        AreOffers g (present_texts m) address asked.document.text offset offers → AllZip (IsItemOf asked.document.text offset) offers items →
+        AreOffers setting (present_texts m) address asked.document.text offset offers → AllZip (IsItemOf asked.document.text offset) offers items →
         TellsCompletion address at (Offers items)
 
   -- what a question is replied

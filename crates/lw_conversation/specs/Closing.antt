@@ -3,7 +3,7 @@
 -- Language Server Protocol 3.17, "DidCloseTextDocument Notification".
 use Rattle.std.specs.Prelude.{ℕ, List, [], ◌∷◌, ◌++◌, None, false, codes}
 use Rattle.std.specs.FinMap.{insert}
-use Rattle.lw_grammar.specs.declared.grammar.Grammar.{Grammar}
+use Rattle.lw_link_rules.specs.Setting.{Setting}
 use Rattle.lw_io.specs.declared.store.Found.TheVariants.{Text, Absent, NotUtf8, TooLong, Failed}
 use Rattle.lw_rpc.specs.declared.reply.Reply.{Reply}
 use Rattle.lw_rpc.specs.declared.reply.Reply.TheVariants.{Log}
@@ -24,15 +24,15 @@ abbrev pub failed_log : List ℕ → Reply
 failed_log address = Log (codes "store failed: " ++ address)
 
 -- what was asked, and the documents and the replies once a document is closed
-pub data ClosesDocument (g : Grammar) (m : Documents) (address : List ℕ) : List Asked → Documents → List Reply → Type 0 where
-  unknown : IsUnknown m address → ClosesDocument g m address [] m (Log (codes "unknown document: " ++ address) ∷ [])
+pub data ClosesDocument (setting : Setting) (m : Documents) (address : List ℕ) : List Asked → Documents → List Reply → Type 0 where
+  unknown : IsUnknown m address → ClosesDocument setting m address [] m (Log (codes "unknown document: " ++ address) ∷ [])
   text : {d : Document} {asked : List Asked} {text : List ℕ} → IsOpenAt m address d → FindsFile address asked (Text text) →
-      ClosesDocument g m address asked (put m address text None false) []
+      ClosesDocument setting m address asked (put m address text None false) []
   absent : {d : Document} {asked : List Asked} {n : Documents} {replies : List Reply} → IsOpenAt m address d → FindsFile address asked Absent →
-      Removes g m address n replies → ClosesDocument g m address asked n replies
+      Removes setting m address n replies → ClosesDocument setting m address asked n replies
   not_text : {d : Document} {asked : List Asked} {n : Documents} {replies : List Reply} → IsOpenAt m address d → FindsFile address asked NotUtf8 →
-      Removes g m address n replies → ClosesDocument g m address asked n (replies ++ not_text_log address ∷ [])
+      Removes setting m address n replies → ClosesDocument setting m address asked n (replies ++ not_text_log address ∷ [])
   too_long : {d : Document} {asked : List Asked} {n : Documents} {replies : List Reply} → IsOpenAt m address d → FindsFile address asked TooLong →
-      Removes g m address n replies → ClosesDocument g m address asked n (replies ++ too_long_log address ∷ [])
+      Removes setting m address n replies → ClosesDocument setting m address asked n (replies ++ too_long_log address ∷ [])
   failed : {d : Document} {asked : List Asked} → IsOpenAt m address d → FindsFile address asked Failed →
-      ClosesDocument g m address asked (insert m address (closed d)) (failed_log address ∷ [])
+      ClosesDocument setting m address asked (insert m address (closed d)) (failed_log address ∷ [])

@@ -4,6 +4,7 @@ use Rattle.std.specs.Prelude.{ℕ, ◌≡◌, ◌≢◌, ◌⊎◌, List, All, C
 use Rattle.std.specs.FinMap.{get}
 use Rattle.std.specs.Str.{IsUtf8}
 use Rattle.lw_grammar.specs.declared.grammar.Grammar.{Grammar}
+use Rattle.lw_link_rules.specs.Setting.{Setting}
 use Rattle.lw_grammar.specs.Kinds.{AreKinds, Kinds}
 use Rattle.lw_io.specs.declared.store.Found.{Found}
 use Rattle.lw_io.specs.declared.store.Found.TheVariants.{Text, NoMemory}
@@ -24,21 +25,21 @@ abbrev pub ReadsTexts : Grammar → Type 0
 ReadsTexts g = (text : List ℕ) → IsUtf8 text → (parsed : Parsed) × Reads g text parsed
 
 -- Of finitely many offers one can say whether each is one at an offset of the document at an address, which has this text, and no others are.
-pub record TellsOffers (g : Grammar) (texts : Texts) (address text : List ℕ) (offset : ℕ) : Type 0 where
+pub record TellsOffers (setting : Setting) (texts : Texts) (address text : List ℕ) (offset : ℕ) : Type 0 where
   pub of : Kinds
-  pub are_kinds : AreKinds g of
+  pub are_kinds : AreKinds setting.grammar of
   pub lexicon : Lexicon
-  pub is_lexicon : IsLexicon g of lexicon
+  pub is_lexicon : IsLexicon setting.grammar of lexicon
   pub trees : Trees
-  pub are_trees : AreTreesOfTexts g texts trees
+  pub are_trees : AreTreesOfTexts setting.grammar texts trees
   pub some : List Offer
-  pub told : (offer : Offer) → Contains some offer → IsOffer g of lexicon trees address text offset offer ⊎ (¬ IsOffer g of lexicon trees address text offset offer)
-  pub no_others : (offer : Offer) → IsOffer g of lexicon trees address text offset offer → Contains some offer
+  pub told : (offer : Offer) → Contains some offer → IsOffer setting of lexicon trees address text offset offer ⊎ (¬ IsOffer setting of lexicon trees address text offset offer)
+  pub no_others : (offer : Offer) → IsOffer setting of lexicon trees address text offset offer → Contains some offer
 
 -- so it is at each offset of these documents, whatever of them is built
-abbrev pub TellsAllOffers : Grammar → Documents → Type 0
-TellsAllOffers g m = (n : Documents) → HaveSameContent m n → (address : List ℕ) (d : Document) (offset : ℕ) → get n address ≡ Some d →
-    TellsOffers g (present_texts n) address d.text offset
+abbrev pub TellsAllOffers : Setting → Documents → Type 0
+TellsAllOffers setting m = (n : Documents) → HaveSameContent m n → (address : List ℕ) (d : Document) (offset : ℕ) → get n address ≡ Some d →
+    TellsOffers setting (present_texts n) address d.text offset
 
 -- the texts that a message puts into a document are UTF-8
 abbrev pub BringsTexts : Message → Type 0

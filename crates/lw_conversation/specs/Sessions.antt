@@ -2,7 +2,7 @@
 -- Language Server Protocol 3.17, "Base Protocol" and "Server lifecycle".
 use Rattle.std.specs.Prelude.{ℕ, ◌≡◌, ◌≢◌, List, [], ◌∷◌, ◌++◌, true, false, map, Option}
 use Rattle.std.specs.List.{flat_map}
-use Rattle.lw_grammar.specs.declared.grammar.Grammar.{Grammar}
+use Rattle.lw_link_rules.specs.Setting.{Setting}
 use Rattle.lw_io.specs.Causes.{next_number}
 use Rattle.lw_io.specs.declared.store.Found.{Found}
 use Rattle.lw_io.specs.declared.store.Found.TheVariants.{Failed}
@@ -21,15 +21,15 @@ use Rattle.lw_conversation.specs.Answered.{Answered}
 use Rattle.lw_conversation.specs.declared.ended.Ended.{Ended}
 use Rattle.lw_conversation.specs.declared.ended.Ended.TheVariants.{No}
 
-module _ (g : Grammar) where
+module _ (setting : Setting) where
   -- A message, and the build behind it: the session before and after it, what the store was asked and answered, the replies with what is published behind
   -- them, and whether the session is over.
   pub data Handles (s : Standing) (m : Message) (asked : List Asked) : Standing → List Reply → Ended → Type 0 where
     -- nothing is built before `initialize`
-    unbuilt : {t : Standing} {replies : List Reply} {ended : Ended} → Answered g s m asked t replies ended → t.phase.initialized ≡ false →
+    unbuilt : {t : Standing} {replies : List Reply} {ended : Ended} → Answered setting s m asked t replies ended → t.phase.initialized ≡ false →
         Handles s m asked t replies ended
-    built : {t : Standing} {replies : List Reply} {ended : Ended} {n : Documents} {published : List Published} → Answered g s m asked t replies ended →
-        t.phase.initialized ≡ true → BuildsToEnd g t.documents n published → Handles s m asked (with_documents t n) (replies ++ map as_reply published) ended
+    built : {t : Standing} {replies : List Reply} {ended : Ended} {n : Documents} {published : List Published} → Answered setting s m asked t replies ended →
+        t.phase.initialized ≡ true → BuildsToEnd setting t.documents n published → Handles s m asked (with_documents t n) (replies ++ map as_reply published) ended
 
   -- Bodies in their order, up to `exit`, with what the store was asked and answered at the reads of each: those behind it are not looked at.
   pub data Serves : Standing → List (List ℕ) → List (List Asked) → Standing → List Reply → Ended → Type 0 where
@@ -54,11 +54,11 @@ count_after before [] = before
 count_after before (a ∷ asked) = count_after (count_behind before a.answer) asked
 
 -- What is done with a body, the replies being told by their bytes, where the files of the store are these and its count was and is this.
-pub record HandlesBody (g : Grammar) (s : Standing) (body : List ℕ) (files : Option (List (List ℕ × List ℕ))) (before now : ℕ) (t : Standing) (texts : List (List ℕ))
+pub record HandlesBody (setting : Setting) (s : Standing) (body : List ℕ) (files : Option (List (List ℕ × List ℕ))) (before now : ℕ) (t : Standing) (texts : List (List ℕ))
     (ended : Ended) : Type 0 where
   pub asked : List Asked
   pub replies : List Reply
-  pub handles : Handles g s (message_of body) asked t replies ended
+  pub handles : Handles setting s (message_of body) asked t replies ended
   pub told : texts ≡ map reply_bytes replies
   pub answered : AreAnswered files asked
   pub counted : now ≡ count_after before asked

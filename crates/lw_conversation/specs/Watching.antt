@@ -4,7 +4,7 @@
 -- Language Server Protocol 3.17, "DidChangeWatchedFiles Notification".
 use Rattle.std.specs.Prelude.{ℕ, ◌≡◌, ◌≢◌, List, [], ◌∷◌, ◌++◌, None, false, codes}
 use Rattle.std.specs.FinMap.{get}
-use Rattle.lw_grammar.specs.declared.grammar.Grammar.{Grammar}
+use Rattle.lw_link_rules.specs.Setting.{Setting}
 use Rattle.lw_io.specs.declared.store.Found.TheVariants.{Text, Absent, NotUtf8, TooLong, Failed}
 use Rattle.lw_rpc.specs.declared.file_change.FileChange.{FileChange}
 use Rattle.lw_rpc.specs.declared.file_change.FileChangeKind.{FileChangeKind}
@@ -19,14 +19,14 @@ use Rattle.lw_conversation.specs.Opening.{HasRoom, IsFull}
 use Rattle.lw_conversation.specs.Reading.{Asked, FindsFile}
 use Rattle.lw_conversation.specs.Removing.{Removes}
 
-module _ (g : Grammar) where
+module _ (setting : Setting) where
   -- the file at an address was created or changed, and no editor has the document open: what was asked, the documents and the replies
   pub data LoadsAgain (m : Documents) (address : List ℕ) : List Asked → Documents → List Reply → Type 0 where
     text : {asked : List Asked} {text : List ℕ} → FindsFile address asked (Text text) → HasRoom m address →
         LoadsAgain m address asked (put m address text None false) []
     too_many : {asked : List Asked} {text : List ℕ} → FindsFile address asked (Text text) → IsFull m address →
         LoadsAgain m address asked m (Log (codes "too many documents: " ++ address) ∷ [])
-    gone : {asked : List Asked} {n : Documents} {replies : List Reply} → FindsFile address asked Absent → Removes g m address n replies →
+    gone : {asked : List Asked} {n : Documents} {replies : List Reply} → FindsFile address asked Absent → Removes setting m address n replies →
         LoadsAgain m address asked n replies
     never_there : {asked : List Asked} → FindsFile address asked Absent → get m address ≡ None → LoadsAgain m address asked m []
     not_text : {asked : List Asked} → FindsFile address asked NotUtf8 → LoadsAgain m address asked m (not_text_log address ∷ [])
@@ -38,7 +38,7 @@ module _ (g : Grammar) where
     is_open : {d : Document} → IsOpenAt m address d → SeesChange m address kind [] m []
     loads : {asked : List Asked} {n : Documents} {replies : List Reply} → kind ≢ Deleted → IsUnknown m address → LoadsAgain m address asked n replies →
         SeesChange m address kind asked n replies
-    removed : {n : Documents} {replies : List Reply} → kind ≡ Deleted → IsUnknown m address → Removes g m address n replies →
+    removed : {n : Documents} {replies : List Reply} → kind ≡ Deleted → IsUnknown m address → Removes setting m address n replies →
         SeesChange m address kind [] n replies
     not_held : kind ≡ Deleted → get m address ≡ None → SeesChange m address kind [] m []
 

@@ -2,7 +2,7 @@
 ghost use Rattle.std.specs.Prelude.{◌≡◌, ℕ, ℤ, Bool, List, All, Some, true};
 ghost use Rattle.std.specs.FinMap.{get};
 ghost use Rattle.std.specs.Str.{IsUtf8};
-ghost use Rattle.lw_grammar.specs.declared.grammar.Grammar.{Grammar};
+ghost use Rattle.lw_link_rules.specs.Setting.{Setting};
 ghost use Rattle.lw_machine.specs.Documents.{Document, Documents, present_texts};
 ghost use Rattle.lw_machine.specs.Readable.{HaveReadablePresentTexts, HaveReadableTexts};
 ghost use Rattle.lw_machine.specs.Telling.{TellsTypes};
@@ -38,9 +38,9 @@ use lw_places::offers::one_list;
 /// where it stands after them, what it replies and publishes, and whether it is over. Where no read failed, the bodies and the files of the store settle
 /// it.
 pub fn one_outcome()
-    ensures reads { (g : Grammar) → IsReadOneWay g → (s t u : Standing) (bodies : List (List ℕ)) (asked : List (List Asked)) (p q : List Reply) (e f : Ended) →
-        Serves g s bodies asked t p e → Serves g s bodies asked u q f → (t ≡ u) × (p ≡ q) × (e ≡ f) }
-    ensures files { (g : Grammar) → IsReadOneWay g → AreSettledByFiles g }
+    ensures reads { (setting : Setting) → IsReadOneWay setting.grammar → (s t u : Standing) (bodies : List (List ℕ)) (asked : List (List Asked)) (p q : List Reply) (e f : Ended) →
+        Serves setting s bodies asked t p e → Serves setting s bodies asked u q f → (t ≡ u) × (p ≡ q) × (e ≡ f) }
+    ensures files { (setting : Setting) → IsReadOneWay setting.grammar → AreSettledByFiles setting }
 {
     one_list();
     one_path();
@@ -49,22 +49,22 @@ pub fn one_outcome()
 /// By a grammar by which a text is read in one way, whatever texts were put before and whatever bodies come, what holds of documents at every moment
 /// holds behind each body, and once `initialize` was answered with a result nothing is left to do for any document.
 pub fn sessions_stay_current()
-    ensures valid { (g : Grammar) → IsReadOneWay g → (files : List (List ℕ × List ℕ)) (bodies : List (List ℕ)) (asked : List (List Asked)) (t : Standing)
-        (replies : List Reply) (ended : Ended) → Serves g (beginning files) bodies asked t replies ended → IsValid g t.documents }
-    ensures current { (g : Grammar) → IsReadOneWay g → (files : List (List ℕ × List ℕ)) (bodies : List (List ℕ)) (asked : List (List Asked)) (t : Standing)
-        (replies : List Reply) (ended : Ended) → Serves g (beginning files) bodies asked t replies ended → t.phase.initialized ≡ true → AreCurrent g t.documents }
+    ensures valid { (setting : Setting) → IsReadOneWay setting.grammar → (files : List (List ℕ × List ℕ)) (bodies : List (List ℕ)) (asked : List (List Asked)) (t : Standing)
+        (replies : List Reply) (ended : Ended) → Serves setting (beginning files) bodies asked t replies ended → IsValid setting t.documents }
+    ensures current { (setting : Setting) → IsReadOneWay setting.grammar → (files : List (List ℕ × List ℕ)) (bodies : List (List ℕ)) (asked : List (List Asked)) (t : Standing)
+        (replies : List Reply) (ended : Ended) → Serves setting (beginning files) bodies asked t replies ended → t.phase.initialized ≡ true → AreCurrent setting t.documents }
 {}
 
 /// Where a message is answered with edits, their addresses are in byte order, each once, as the keys of a JSON object are.
 pub fn edits_are_in_order()
-    ensures { (g : Grammar) (s t : Standing) (m : Message) (asked : List Asked) (replies : List Reply) (ended : Ended) →
-        Answered g s m asked t replies ended → All HasOrderedEdits replies }
+    ensures { (setting : Setting) (s t : Standing) (m : Message) (asked : List Asked) (replies : List Reply) (ended : Ended) →
+        Answered setting s m asked t replies ended → All HasOrderedEdits replies }
 {}
 
 /// A session ends as its phases say, whatever its documents are, and they say one end of any bodies.
 pub fn one_end()
-    ensures serves { (g : Grammar) (s t : Standing) (bodies : List (List ℕ)) (asked : List (List Asked)) (replies : List Reply) (ended : Ended) →
-        Serves g s bodies asked t replies ended → Lives s.phase bodies t.phase ended }
+    ensures serves { (setting : Setting) (s t : Standing) (bodies : List (List ℕ)) (asked : List (List Asked)) (replies : List Reply) (ended : Ended) →
+        Serves setting s bodies asked t replies ended → Lives s.phase bodies t.phase ended }
     ensures some { (phase : Phase) (bodies : List (List ℕ)) → (last : Phase) × (ended : Ended) × Lives phase bodies last ended }
     ensures one { (phase last other : Phase) (bodies : List (List ℕ)) (e f : Ended) → Lives phase bodies last e → Lives phase bodies other f → (last ≡ other) × (e ≡ f) }
 {}
@@ -72,23 +72,23 @@ pub fn one_end()
 /// Each message has an outcome, so that no definition of one is empty. The documents are valid and can be read, and the store may answer anything. The grammar tells its
 /// subtypes, and each text reads as something by it, in one way. It can be told of finitely many offers which are. Each part asks for some of this alone.
 pub fn some_outcome()
-    ensures message { (g : Grammar) → TellsTypes g → ReadsTexts g → IsReadOneWay g → (answers : Answers) → AreFound answers → (s : Standing) → IsValid g s.documents →
-        HaveReadableTexts g s.documents → TellsAllOffers g s.documents → (m : Message) → BringsTexts m →
-        (asked : List Asked) × (t : Standing) × (replies : List Reply) × (ended : Ended) × Answered g s m asked t replies ended × AreGiven answers asked }
+    ensures message { (setting : Setting) → TellsTypes setting.grammar → ReadsTexts setting.grammar → IsReadOneWay setting.grammar → (answers : Answers) → AreFound answers → (s : Standing) → IsValid setting s.documents →
+        HaveReadableTexts setting.grammar s.documents → TellsAllOffers setting s.documents → (m : Message) → BringsTexts m →
+        (asked : List Asked) × (t : Standing) × (replies : List Reply) × (ended : Ended) × Answered setting s m asked t replies ended × AreGiven answers asked }
     ensures opens { (m : Documents) (address : List ℕ) (version : ℤ) (text : List ℕ) → (n : Documents) × (replies : List Reply) × OpensDocument m address version text n replies }
     ensures edits { (m : Documents) → ((address : List ℕ) (d : Document) → get m address ≡ Some d → IsUtf8 d.text) → (address : List ℕ) (version : ℤ) (changes : List Change) →
         All (λ c. IsUtf8 c.text) changes → (n : Documents) × (replies : List Reply) × EditsDocument m address version changes n replies }
-    ensures closes { (g : Grammar) → TellsTypes g → (answers : Answers) → AreFound answers → (m : Documents) → IsValid g m → HaveReadableTexts g m → (address : List ℕ) →
-        (asked : List Asked) × (n : Documents) × (replies : List Reply) × ClosesDocument g m address asked n replies × AreGiven answers asked }
-    ensures sees { (g : Grammar) → TellsTypes g → (answers : Answers) → AreFound answers → ReadsTexts g → IsReadOneWay g → (m : Documents) (changes : List FileChange) →
-        IsValid g m → HaveReadableTexts g m → (asked : List Asked) × (n : Documents) × (replies : List Reply) × SeesChanges g m changes asked n replies × AreGiven answers asked }
-    ensures definition { (g : Grammar) → TellsTypes g → (m : Documents) → HaveReadablePresentTexts g m → (address : List ℕ) (at : Pos) →
-        (outcome : Outcome) × TellsDefinition g m address at outcome }
-    ensures references { (g : Grammar) → TellsTypes g → (m : Documents) → HaveReadablePresentTexts g m → (address : List ℕ) (at : Pos) (declaration : Bool) →
-        (outcome : Outcome) × TellsReferences g m address at declaration outcome }
-    ensures rename { (g : Grammar) → TellsTypes g → (m : Documents) → HaveReadablePresentTexts g m → (address : List ℕ) (at : Pos) → IsReadOneWay g → ReadsTexts g →
-        (id : Id) (new : List ℕ) → (reply : Reply) × TellsRename g m id address at new reply }
-    ensures completion { (g : Grammar) → TellsTypes g → (m : Documents) → HaveReadablePresentTexts g m → (address : List ℕ) (at : Pos) →
-        ((d : Document) (offset : ℕ) → get m address ≡ Some d → TellsOffers g (present_texts m) address d.text offset) →
-        (outcome : Outcome) × TellsCompletion g m address at outcome }
+    ensures closes { (setting : Setting) → TellsTypes setting.grammar → (answers : Answers) → AreFound answers → (m : Documents) → IsValid setting m → HaveReadableTexts setting.grammar m → (address : List ℕ) →
+        (asked : List Asked) × (n : Documents) × (replies : List Reply) × ClosesDocument setting m address asked n replies × AreGiven answers asked }
+    ensures sees { (setting : Setting) → TellsTypes setting.grammar → (answers : Answers) → AreFound answers → ReadsTexts setting.grammar → IsReadOneWay setting.grammar → (m : Documents) (changes : List FileChange) →
+        IsValid setting m → HaveReadableTexts setting.grammar m → (asked : List Asked) × (n : Documents) × (replies : List Reply) × SeesChanges setting m changes asked n replies × AreGiven answers asked }
+    ensures definition { (setting : Setting) → TellsTypes setting.grammar → (m : Documents) → HaveReadablePresentTexts setting.grammar m → (address : List ℕ) (at : Pos) →
+        (outcome : Outcome) × TellsDefinition setting m address at outcome }
+    ensures references { (setting : Setting) → TellsTypes setting.grammar → (m : Documents) → HaveReadablePresentTexts setting.grammar m → (address : List ℕ) (at : Pos) (declaration : Bool) →
+        (outcome : Outcome) × TellsReferences setting m address at declaration outcome }
+    ensures rename { (setting : Setting) → TellsTypes setting.grammar → (m : Documents) → HaveReadablePresentTexts setting.grammar m → (address : List ℕ) (at : Pos) → IsReadOneWay setting.grammar → ReadsTexts setting.grammar →
+        (id : Id) (new : List ℕ) → (reply : Reply) × TellsRename setting m id address at new reply }
+    ensures completion { (setting : Setting) → TellsTypes setting.grammar → (m : Documents) → HaveReadablePresentTexts setting.grammar m → (address : List ℕ) (at : Pos) →
+        ((d : Document) (offset : ℕ) → get m address ≡ Some d → TellsOffers setting (present_texts m) address d.text offset) →
+        (outcome : Outcome) × TellsCompletion setting m address at outcome }
 {}

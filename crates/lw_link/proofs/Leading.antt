@@ -14,6 +14,7 @@ use Rattle.lw_scoping.proofs.Paths.{leads_once}
 use Rattle.lw_scoping.proofs.Places.{among}
 use Rattle.lw_tree.specs.declared.node.Reference.{Reference}
 use Rattle.lw_tree.specs.Parts.{Parts}
+use Rattle.lw_scoping.specs.Rules.{Rules}
 
 -- ---- symbols on the way outwards
 
@@ -63,21 +64,21 @@ module _ (trees : Trees) (address : List ℕ) (tree : Parts) where
           differ : false ≡ true → ⊥
           differ e = cc
 
-  module _ (below : ℕ → ℕ → Type 0) (r : Reference) where
+  module _ (rules : Rules) (r : Reference) where
     -- ---- exports
 
-    pub here_fits : (n : ℕ) → Contains (exports tree) n → Fits below tree r n → FitsThere below Now r (address, n)
+    pub here_fits : (n : ℕ) → Contains (exports tree) n → Fits rules.below tree r n → FitsThere rules.below Now r (address, n)
     here_fits n exported fits = (tree, having_here, exported, fits)
 
-    pub elsewhere_fits : (place : List ℕ × ℕ) → place.0 ≢ address → FitsThere below trees r place → FitsThere below Now r place
+    pub elsewhere_fits : (place : List ℕ × ℕ) → place.0 ≢ address → FitsThere rules.below trees r place → FitsThere rules.below Now r place
     elsewhere_fits place apart (t, there, exported, fits) = (t, having_elsewhere place.0 apart ∙ there, exported, fits)
 
-    pub fits_somewhere : (place : List ℕ × ℕ) → FitsThere below Now r place →
-        (Contains (exports tree) place.1 × Fits below tree r place.1) ⊎ ((place.0 ≢ address) × FitsThere below trees r place)
+    pub fits_somewhere : (place : List ℕ × ℕ) → FitsThere rules.below Now r place →
+        (Contains (exports tree) place.1 × Fits rules.below tree r place.1) ⊎ ((place.0 ≢ address) × FitsThere rules.below trees r place)
     fits_somewhere place (t, there, exported, fits) = elim (here_or_elsewhere place.0 t there) [
       | inl (_, same) ↦ inl (
         subst (λ (x : Parts). Contains (exports x) place.1) (sym same) exported,
-        subst (λ (x : Parts). Fits below x r place.1) (sym same) fits,
+        subst (λ (x : Parts). Fits rules.below x r place.1) (sym same) fits,
       )
       | inr (apart, is) ↦ inr (apart, (t, is, exported, fits))
     ]
@@ -87,17 +88,17 @@ module _ (trees : Trees) (address : List ℕ) (tree : Parts) where
 
       -- a symbol on the way fits, or an export
       abbrev pub SomeFits : Type 0
-      SomeFits = ((n : ℕ) × Contains (flat_map (locals tree) path) n × Fits below tree r n) ⊎ ((place : List ℕ × ℕ) × FitsThere below Now r place)
+      SomeFits = ((n : ℕ) × Contains (flat_map (locals tree) path) n × Fits rules.below tree r n) ⊎ ((place : List ℕ × ℕ) × FitsThere rules.below Now r place)
 
-      pub target_of : (link : Link) → LinksTo below Now address tree r link → SomeFits → HasTarget below trees address tree r
+      pub target_of : (link : Link) → LinksTo rules Now address tree r link → SomeFits → HasTarget rules trees address tree r
       target_of link (own {n = n} is) _ = ((address, n), own is)
       target_of link (out {place = place} is fits least) _ = (place, out is fits least)
-      target_of link (nowhere is misses) (inl (n, has, fits)) = absurd (none_on_way below tree r path leads is n has fits)
+      target_of link (nowhere is misses) (inl (n, has, fits)) = absurd (none_on_way rules.below tree r path leads is n has fits)
       target_of link (nowhere is misses) (inr (place, fits)) = absurd (misses place fits)
 
-      pub some_fits : HasTarget below trees address tree r → SomeFits
+      pub some_fits : HasTarget rules trees address tree r → SomeFits
       some_fits (target, links) = by target links
         where
-          by : (target : List ℕ × ℕ) → LinksTo below Now address tree r (Some target) → SomeFits
-          by target (own {n = n} is) = let (has, fits) = own_on_way below tree r path leads n is in inl (n, has, fits)
+          by : (target : List ℕ × ℕ) → LinksTo rules Now address tree r (Some target) → SomeFits
+          by target (own {n = n} is) = let (has, fits) = own_on_way rules.below tree r path leads n is in inl (n, has, fits)
           by target (out {place = place} is fits least) = inr (place, fits)

@@ -9,7 +9,7 @@ use Rattle.std.specs.declared.cmp.Ordering.{Ordering}
 use Rattle.std.specs.declared.cmp.Ordering.TheVariants.{Less, Equal, Greater}
 use Rattle.std.proofs.lemmas.Cmp.{ranked}
 use Rattle.std.proofs.lemmas.Option.{none-some, same_Some}
-use Rattle.lw_grammar.specs.declared.grammar.Grammar.{Grammar}
+use Rattle.lw_link_rules.specs.Setting.{Setting}
 use Rattle.lw_grammar.specs.Subtypes.{IsSubtype}
 use Rattle.lw_reading.specs.Numbers.{IsNumberOfType}
 use Rattle.lw_tree.specs.declared.node.Reference.{Reference}
@@ -17,7 +17,7 @@ use Rattle.lw_tree.specs.Parts.{Parts}
 use Rattle.lw_scoping.specs.Links.{Trees, StandsNoLater, by_address, by_node, IsOwn, FitsThere, LinksTo, own, out, nowhere}
 use Rattle.lw_scoping.specs.Symbols.{exports, IsNamedNode}
 use Rattle.lw_scoping.proofs.Relations.{own_as}
-use Rattle.lw_link_rules.specs.Links.{IsNumberBelow}
+use Rattle.lw_link_rules.specs.Links.{IsNumberBelow, rules_of}
 use Rattle.lw_types.specs.Sets.{AreNumbersBelow}
 use Rattle.lw_index.specs.declared.parts.Answer.TheVariants.{Found, Missing}
 use Rattle.lw_index.specs.declared.parts.Document.{Document}
@@ -72,19 +72,19 @@ address_is index doc d there = ap (λ (o : Option Document). option_map_or (λ (
 -- ---- links
 
 -- the set has exactly the types that a reference wants
-module _ (g : Grammar) (r : Reference) (high : List ℕ) (set : FinSet nat_cmp) (is_type : IsNumberOfType g high r.want.0) (are : AreNumbersBelow g high set) where
-  pub below : (type : ℕ) → contains set type ≡ true → IsNumberBelow g type r.want.0
+module _ (setting : Setting) (r : Reference) (high : List ℕ) (set : FinSet nat_cmp) (is_type : IsNumberOfType setting.grammar high r.want.0) (are : AreNumbersBelow setting.grammar high set) where
+  pub below : (type : ℕ) → contains set type ≡ true → IsNumberBelow setting.grammar type r.want.0
   below type has = let h = (are type).0 has in record { one = h.0; other = high; one_is = h.1; other_is = is_type; below = h.2 }
 
-  pub inside : (type : ℕ) → IsNumberBelow g type r.want.0 → contains set type ≡ true
-  inside type is = (are type).1 (is.one, is.one_is, subst (IsSubtype g is.one) (same_Some is.other high (sym is.other_is ∙ is_type)) is.below)
+  pub inside : (type : ℕ) → IsNumberBelow setting.grammar type r.want.0 → contains set type ≡ true
+  inside type is = (are type).1 (is.one, is.one_is, subst (IsSubtype setting.grammar is.one) (same_Some is.other high (sym is.other_is ∙ is_type)) is.below)
 
-  pub own_below : (tree : Parts) (found : Option ℕ) → IsOwn (λ type _. contains set type ≡ true) tree r found → IsOwn (IsNumberBelow g) tree r found
-  own_below tree found is = own_as (λ type _. contains set type ≡ true) (IsNumberBelow g) tree r below inside found is
+  pub own_below : (tree : Parts) (found : Option ℕ) → IsOwn (λ type _. contains set type ≡ true) tree r found → IsOwn (IsNumberBelow setting.grammar) tree r found
+  own_below tree found is = own_as (λ type _. contains set type ≡ true) (IsNumberBelow setting.grammar) tree r below inside found is
 
   module _ (trees : Trees) (index : Indexed) (is_index : IsIndexOf trees index) where
     -- what the index holds of the name and with such a type fits
-    pub fits : (doc : ℕ) (d : Document) (node : ℕ) → IsWanted index r.name set doc d node → FitsThere (IsNumberBelow g) trees r (d.uri, node)
+    pub fits : (doc : ℕ) (d : Document) (node : ℕ) → IsWanted index r.name set doc d node → FitsThere (IsNumberBelow setting.grammar) trees r (d.uri, node)
     fits doc d node is =
         let there = held r.name is.type node (is_index.entries doc d is.exported.held) is.exported.export in
         (there.tree, there.is_tree, there.exported, (is.type, there.named, below is.type is.wanted))
@@ -96,7 +96,7 @@ module _ (g : Grammar) (r : Reference) (high : List ℕ) (set : FinSet nat_cmp) 
       pub at : document.uri ≡ place.0
       pub wanted : IsWanted index r.name set doc document place.1
 
-    pub fits_held : (place : List ℕ × ℕ) → FitsThere (IsNumberBelow g) trees r place → IsHeld place
+    pub fits_held : (place : List ℕ × ℕ) → FitsThere (IsNumberBelow setting.grammar) trees r place → IsHeld place
     fits_held place (tree, is_tree, exported, (type, named, under)) =
         let (doc, d, there, at) = is_index.held place.0 tree is_tree in
         let here : IsExportOf (trees d.uri) r.name type place.1 =
@@ -114,24 +114,24 @@ module _ (g : Grammar) (r : Reference) (high : List ℕ) (set : FinSet nat_cmp) 
 
     module _ (address : List ℕ) (tree : Parts) where
       pub found_own : (target : Target) → IsDocumentOf trees index target.doc.0 address tree → IsOwn (λ type _. contains set type ≡ true) tree r (Some target.node.0) →
-          LinksTo (IsNumberBelow g) trees address tree r (link_of index (Found target))
+          LinksTo (rules_of setting) trees address tree r (link_of index (Found target))
       found_own target is_document is =
-          subst (λ (a : List ℕ). LinksTo (IsNumberBelow g) trees address tree r (Some (a, target.node.0)))
+          subst (λ (a : List ℕ). LinksTo (rules_of setting) trees address tree r (Some (a, target.node.0)))
           (sym (address_is index target.doc.0 is_document.document is_document.there ∙ is_document.here)) (own (own_below tree (Some target.node.0) is))
 
       pub found_out : (target : Target) → IsOwn (λ type _. contains set type ≡ true) tree r None → IsFirstExport index r.name set target →
-          LinksTo (IsNumberBelow g) trees address tree r (link_of index (Found target))
+          LinksTo (rules_of setting) trees address tree r (link_of index (Found target))
       found_out target is first =
-          subst (λ (a : List ℕ). LinksTo (IsNumberBelow g) trees address tree r (Some (a, target.node.0)))
+          subst (λ (a : List ℕ). LinksTo (rules_of setting) trees address tree r (Some (a, target.node.0)))
           (sym (address_is index target.doc.0 first.document first.wanted.exported.held))
           (out (own_below tree None is) (fits target.doc.0 first.document target.node.0 first.wanted) least)
         where
-          least : (other : List ℕ × ℕ) → FitsThere (IsNumberBelow g) trees r other → StandsNoLater (first.document.uri, target.node.0) other
+          least : (other : List ℕ × ℕ) → FitsThere (IsNumberBelow setting.grammar) trees r other → StandsNoLater (first.document.uri, target.node.0) other
           least other there =
               let h = fits_held other there in
               subst (λ (a : List ℕ). StandsNoLater (first.document.uri, target.node.0) (a, other.1)) h.at
               (stands (first.document.uri, target.node.0) (h.document.uri, other.1) (first.first h.doc h.document other.1 h.wanted))
 
-      pub found_nowhere : IsOwn (λ type _. contains set type ≡ true) tree r None → NoneWanted index r.name set → LinksTo (IsNumberBelow g) trees address tree r (link_of index Missing)
+      pub found_nowhere : IsOwn (λ type _. contains set type ≡ true) tree r None → NoneWanted index r.name set → LinksTo (rules_of setting) trees address tree r (link_of index Missing)
       found_nowhere is none =
           nowhere (own_below tree None is) (λ place there. let h = fits_held place there in none h.doc h.document place.1 h.wanted)

@@ -12,7 +12,7 @@ use Rattle.std.proofs.lemmas.Option.{none-some, same_Some}
 use Rattle.lw_base.specs.declared.numbers.NodeId.{NodeId}
 use Rattle.lw_faults.specs.Finding.{Finds, OfSome}
 use Rattle.lw_faults.proofs.Joining.{Finds-then}
-use Rattle.lw_grammar.specs.declared.grammar.Grammar.{Grammar}
+use Rattle.lw_link_rules.specs.Setting.{Setting}
 use Rattle.lw_base.proofs.Lists.{there}
 use Rattle.lw_index.specs.declared.parts.Document.{Document}
 use Rattle.lw_index.specs.Elsewhere.{AreElsewhere, IsElsewhere}
@@ -22,7 +22,7 @@ use Rattle.lw_places.specs.Targets.{AreVisible, HasTarget, renamed_to}
 use Rattle.lw_machine.specs.Telling.{TellsTypes}
 use Rattle.lw_machine.proofs.Linking.{link}
 use Rattle.lw_reading.specs.Known.{HasOneRoot}
-use Rattle.lw_link_rules.specs.Links.{IsNumberBelow}
+use Rattle.lw_link_rules.specs.Links.{rules_of}
 use Rattle.lw_scoping.specs.Links.{IsOwn, Link, LinksTo, Trees, own}
 use Rattle.lw_scoping.specs.Outward.{ContainersComeFirst, LeadsOut}
 use Rattle.lw_scoping.specs.Symbols.{child_numbers, exports, is_named_node, locals}
@@ -62,14 +62,14 @@ module _ (trees : Trees) (index : Indexed) (is_index : IsIndexOf trees index) (a
   ]
 
   -- it leads somewhere or nowhere
-  some_link : (g : Grammar) → TellsTypes g → ContainersComeFirst tree → (r : Reference) → r.owner.0 < length tree.nodes →
-      (l : Link) × LinksTo (IsNumberBelow g) (Now trees address tree) address tree r l
-  some_link g decide first r inside = link addresses (Now trees address tree) all_addresses (IsNumberBelow g) decide address tree first r inside
+  some_link : (setting : Setting) → TellsTypes setting.grammar → ContainersComeFirst tree → (r : Reference) → r.owner.0 < length tree.nodes →
+      (l : Link) × LinksTo (rules_of setting) (Now trees address tree) address tree r l
+  some_link setting decide first r inside = link addresses (Now trees address tree) all_addresses (rules_of setting) decide address tree first r inside
 
 -- ---- what leads somewhere
 
 -- the set has exactly the types that the reference wants
-module _ (g : Grammar) (r : Reference) (high : List ℕ) (set : FinSet nat_cmp) (is_type : IsNumberOfType g high r.want.0) (are : AreNumbersBelow g high set)
+module _ (setting : Setting) (r : Reference) (high : List ℕ) (set : FinSet nat_cmp) (is_type : IsNumberOfType setting.grammar high r.want.0) (are : AreNumbersBelow setting.grammar high set)
     (trees : Trees) (index : Indexed) (is_index : IsIndexOf trees index) (address : List ℕ) (doc : ℕ) (at : IsNumberAt index doc address)
     (tree : Parts) (root : HasOneRoot tree) (path : List ℕ) (leads : LeadsOut tree r.owner.0 path) where
   -- another document exports the name, the root has it, or a symbol on the way
@@ -77,7 +77,7 @@ module _ (g : Grammar) (r : Reference) (high : List ℕ) (set : FinSet nat_cmp) 
   IsReached = IsElsewhere index doc set r.name ⊎ (IsNameOf tree set 0 r.name ⊎ OfSome (IsNameOf tree set) (flat_map (locals tree) path) r.name)
 
   abbrev Fitting : Type 0
-  Fitting = SomeFits trees address tree (IsNumberBelow g) r path leads
+  Fitting = SomeFits trees address tree (rules_of setting) r path leads
 
   reached_fits : IsReached → Fitting
   reached_fits (inl is) =
@@ -85,24 +85,24 @@ module _ (g : Grammar) (r : Reference) (high : List ℕ) (set : FinSet nat_cmp) 
       let place : List ℕ × ℕ = (is.document.uri, is.node) in
       inr (
         place,
-        elsewhere_fits trees address tree (IsNumberBelow g) r place (λ same. is.another ((at is.doc is.document held).0 same))
-            (fits g r high set is_type are trees index is_index is.doc is.document is.node is.wanted),
+        elsewhere_fits trees address tree (rules_of setting) r place (λ same. is.another ((at is.doc is.document held).0 same))
+            (fits setting r high set is_type are trees index is_index is.doc is.document is.node is.wanted),
       )
   reached_fits (inr (inl (type, named, has))) =
       inr (
         (address, 0),
-        here_fits trees address tree (IsNumberBelow g) r 0
+        here_fits trees address tree (rules_of setting) r 0
             (kept (is_named_node tree) (0 ∷ child_numbers tree 0) 0 (0, omega arith, refl) (ap is_some named.named))
-            (type, named, below g r high set is_type are type has),
+            (type, named, below setting r high set is_type are type has),
       )
-  reached_fits (inr (inr (n, on_way, (type, named, has)))) = inl (n, on_way, (type, named, below g r high set is_type are type has))
+  reached_fits (inr (inr (n, on_way, (type, named, has)))) = inl (n, on_way, (type, named, below setting r high set is_type are type has))
 
   fits_reached : Fitting → IsReached
-  fits_reached (inl (n, on_way, (type, named, under))) = inr (inr (n, on_way, (type, named, inside g r high set is_type are type under)))
-  fits_reached (inr (place, fit)) = elim (fits_somewhere trees address tree (IsNumberBelow g) r place fit) [
-    | inl (exported, (type, named, under)) ↦ here place.1 exported (type, named, inside g r high set is_type are type under)
+  fits_reached (inl (n, on_way, (type, named, under))) = inr (inr (n, on_way, (type, named, inside setting r high set is_type are type under)))
+  fits_reached (inr (place, fit)) = elim (fits_somewhere trees address tree (rules_of setting) r place fit) [
+    | inl (exported, (type, named, under)) ↦ here place.1 exported (type, named, inside setting r high set is_type are type under)
     | inr (apart, there) ↦
-        let h = fits_held g r high set is_type are trees index is_index place there in
+        let h = fits_held setting r high set is_type are trees index is_index place there in
         inl (record {
           doc = h.doc;
           document = h.document;
@@ -116,45 +116,45 @@ module _ (g : Grammar) (r : Reference) (high : List ℕ) (set : FinSet nat_cmp) 
       here zero exported is = inr (inl is)
       here (suc k) exported is = inr (inr (suc k, on_the_way tree root r.owner.0 (suc k) path leads exported (λ same. omega (arith, same)), is))
 
-  module _ (decide : TellsTypes g) (first : ContainersComeFirst tree) (owner : r.owner.0 < length tree.nodes) where
-    pub reached_target : IsReached → HasTarget (IsNumberBelow g) trees address tree r
+  module _ (decide : TellsTypes setting.grammar) (first : ContainersComeFirst tree) (owner : r.owner.0 < length tree.nodes) where
+    pub reached_target : IsReached → HasTarget (rules_of setting) trees address tree r
     reached_target is =
-        let (l, links) = some_link trees index is_index address tree g decide first r owner in
-        target_of trees address tree (IsNumberBelow g) r path leads l links (reached_fits is)
+        let (l, links) = some_link trees index is_index address tree setting decide first r owner in
+        target_of trees address tree (rules_of setting) r path leads l links (reached_fits is)
 
-    pub target_reached : HasTarget (IsNumberBelow g) trees address tree r → IsReached
-    target_reached has = fits_reached (some_fits trees address tree (IsNumberBelow g) r path leads has)
+    pub target_reached : HasTarget (rules_of setting) trees address tree r → IsReached
+    target_reached has = fits_reached (some_fits trees address tree (rules_of setting) r path leads has)
 
 -- ---- what the looks tell
 
-module _ (g : Grammar) (r : Reference) (high : List ℕ) (set : FinSet nat_cmp) (is_type : IsNumberOfType g high r.want.0) (are : AreNumbersBelow g high set)
+module _ (setting : Setting) (r : Reference) (high : List ℕ) (set : FinSet nat_cmp) (is_type : IsNumberOfType setting.grammar high r.want.0) (are : AreNumbersBelow setting.grammar high set)
     (trees : Trees) (index : Indexed) (is_index : IsIndexOf trees index) (address : List ℕ) (doc : ℕ) (at : IsNumberAt index doc address)
-    (tree : Parts) (root : HasOneRoot tree) (decide : TellsTypes g) (first : ContainersComeFirst tree) (owner : r.owner.0 < length tree.nodes) where
+    (tree : Parts) (root : HasOneRoot tree) (decide : TellsTypes setting.grammar) (first : ContainersComeFirst tree) (owner : r.owner.0 < length tree.nodes) where
   way : (path : List ℕ) × LeadsOut tree r.owner.0 path
   way = leads_out tree first r.owner.0 owner
 
   abbrev Reached : List ℕ → Type 0
-  Reached name = IsReached g (renamed_to name r) high set is_type are trees index is_index address doc at tree root way.0 way.1
+  Reached name = IsReached setting (renamed_to name r) high set is_type are trees index is_index address doc at tree root way.0 way.1
 
   abbrev Target : List ℕ → Type 0
-  Target name = HasTarget (IsNumberBelow g) trees address tree (renamed_to name r)
+  Target name = HasTarget (rules_of setting) trees address tree (renamed_to name r)
 
   to : (name : List ℕ) → Reached name → Target name
-  to name = reached_target g (renamed_to name r) high set is_type are trees index is_index address doc at tree root way.0 way.1 decide first owner
+  to name = reached_target setting (renamed_to name r) high set is_type are trees index is_index address doc at tree root way.0 way.1 decide first owner
 
   from : (name : List ℕ) → Target name → Reached name
-  from name = target_reached g (renamed_to name r) high set is_type are trees index is_index address doc at tree root way.0 way.1 decide first owner
+  from name = target_reached setting (renamed_to name r) high set is_type are trees index is_index address doc at tree root way.0 way.1 decide first owner
 
   -- ---- by the name that it has
 
   abbrev IsOwnInSet : Option NodeId → Type 0
   IsOwnInSet found = IsOwn (λ type _. contains set type ≡ true) tree r (option_map (λ (n : NodeId). n.0) found)
 
-  pub own_target : (found : Option NodeId) → is_some found ≡ true → IsOwnInSet found → IsTrue true ↔ HasTarget (IsNumberBelow g) trees address tree r
+  pub own_target : (found : Option NodeId) → is_some found ≡ true → IsOwnInSet found → IsTrue true ↔ HasTarget (rules_of setting) trees address tree r
   own_target None some is = absurd (true≢false (sym some))
-  own_target (Some n) some is = (λ so. ((address, n.0), own (own_below g r high set is_type are tree (Some n.0) is)), λ has. refl)
+  own_target (Some n) some is = (λ so. ((address, n.0), own (own_below setting r high set is_type are tree (Some n.0) is)), λ has. refl)
 
-  pub root_target : IsNameOf tree set 0 r.name → IsTrue true ↔ HasTarget (IsNumberBelow g) trees address tree r
+  pub root_target : IsNameOf tree set 0 r.name → IsTrue true ↔ HasTarget (rules_of setting) trees address tree r
   root_target is = (λ so. to r.name (inr (inl is)), λ has. refl)
 
   no_symbol : (found : Option NodeId) → is_some found ≡ false → IsOwnInSet found → ¬ OfSome (IsNameOf tree set) (flat_map (locals tree) way.0) r.name
@@ -162,7 +162,7 @@ module _ (g : Grammar) (r : Reference) (high : List ℕ) (set : FinSet nat_cmp) 
   no_symbol None none is (n, has, fit) = none_on_way (λ type _. contains set type ≡ true) tree r way.0 way.1 is n has fit
 
   pub other_target : (found : Option NodeId) → is_some found ≡ false → IsOwnInSet found → ¬ IsNameOf tree set 0 r.name → (b : Bool) →
-      IsTrue b ↔ IsElsewhere index doc set r.name → IsTrue b ↔ HasTarget (IsNumberBelow g) trees address tree r
+      IsTrue b ↔ IsElsewhere index doc set r.name → IsTrue b ↔ HasTarget (rules_of setting) trees address tree r
   other_target found none is not_root b told = (
     λ so. to r.name (inl (told.0 so)),
     λ has. elim (from r.name has) [
@@ -176,7 +176,7 @@ module _ (g : Grammar) (r : Reference) (high : List ℕ) (set : FinSet nat_cmp) 
   pub are_visible : (others with_root names sorted : List (List ℕ)) → AreElsewhere index doc set others → Finds (IsNameOf tree set 0) others with_root →
       ((path : List ℕ) → LeadsOut tree r.owner.0 path → Finds (OfSome (IsNameOf tree set) (flat_map (locals tree) path)) with_root names) →
       ((name : List ℕ) → Contains sorted name ↔ Contains names name) → AllPairs (λ one other. slice_cmp nat_cmp one other ≡ Less) sorted →
-      AreVisible (IsNumberBelow g) trees address tree r sorted
+      AreVisible (rules_of setting) trees address tree r sorted
   are_visible others with_root names sorted elsewhere put_root put_on_way same ordered = record { exact = λ name. (λ has. to name (reached name has), back name); ordered = ordered }
     where
       put : Finds (λ name. IsNameOf tree set 0 name ⊎ OfSome (IsNameOf tree set) (flat_map (locals tree) way.0) name) others names

@@ -8,7 +8,7 @@ use Rattle.std.specs.Prelude.{if◌then◌else◌}
 use Rattle.std.specs.Str.{bytes_eq}
 use Rattle.std.proofs.lemmas.Option.{same_Some}
 use Rattle.std.proofs.lemmas.Slice.Eq.{bytes_eq-Decides}
-use Rattle.lw_grammar.specs.declared.grammar.Grammar.{Grammar}
+use Rattle.lw_link_rules.specs.Setting.{Setting}
 use Rattle.lw_index.specs.declared.parts.Answer.{Answer}
 use Rattle.lw_index.specs.declared.parts.Answer.TheVariants.{Found, Missing}
 use Rattle.lw_reading.specs.Numbers.{IsNumberOfType}
@@ -16,7 +16,7 @@ use Rattle.lw_reading.specs.Known.{HasOneRoot}
 use Rattle.lw_reading.proofs.Listed.{in_flat}
 use Rattle.lw_link_rules.proofs.AloneAt.{alone_here}
 use Rattle.lw_link_rules.specs.Diagnostics.{alone_at}
-use Rattle.lw_link_rules.specs.Links.{IsNumberBelow}
+use Rattle.lw_link_rules.specs.Links.{IsNumberBelow, rules_of}
 use Rattle.lw_scoping.specs.Firsts.{IsFirstIn, none}
 use Rattle.lw_scoping.specs.Links.{StandsNoLater, by_node, Fits, FitsThere, IsOwn, LinksTo, own, out, nowhere}
 use Rattle.lw_scoping.specs.Outward.{LeadsOut, outermost, inner}
@@ -60,33 +60,33 @@ module _ (tree : Parts) (root : HasOneRoot tree) where
 -- ---- links
 
 -- the set has exactly the types that the reference wants
-module _ (g : Grammar) (r : Reference) (high : List ℕ) (set : FinSet nat_cmp) (is_type : IsNumberOfType g high r.want.0) (are : AreNumbersBelow g high set)
+module _ (setting : Setting) (r : Reference) (high : List ℕ) (set : FinSet nat_cmp) (is_type : IsNumberOfType setting.grammar high r.want.0) (are : AreNumbersBelow setting.grammar high set)
     (address : List ℕ) (tree : Parts) where
   abbrev pub Leads : Option (List ℕ × ℕ) → Type 0
-  Leads = LinksTo (IsNumberBelow g) (alone_at address tree) address tree r
+  Leads = LinksTo (rules_of setting) (alone_at address tree) address tree r
 
   -- a node has the name, and a type of the set
   abbrev pub InSet : ℕ → Type 0
   InSet = IsNamedOf tree r.name (λ type. contains set type ≡ true)
 
   pub own_alone : (n : ℕ) → IsOwn (λ type _. contains set type ≡ true) tree r (Some n) → Leads (Some (address, n))
-  own_alone n is = own (own_below g r high set is_type are tree (Some n) is)
+  own_alone n is = own (own_below setting r high set is_type are tree (Some n) is)
 
   module _ (none_own : IsOwn (λ type _. contains set type ≡ true) tree r None) where
     pub root_alone : InSet 0 → Leads (Some (address, 0))
     root_alone (type, named, has) =
-        out (own_below g r high set is_type are tree None none_own) (
+        out (own_below setting r high set is_type are tree None none_own) (
           tree,
           alone_here address tree,
           kept (is_named_node tree) (0 ∷ child_numbers tree 0) 0 (0, omega arith, refl) (ap is_some named.named),
-          (type, named, below g r high set is_type are type has),
+          (type, named, below setting r high set is_type are type has),
         ) first
       where
-        first : (place : List ℕ × ℕ) → FitsThere (IsNumberBelow g) (alone_at address tree) r place → StandsNoLater (address, 0) place
+        first : (place : List ℕ × ℕ) → FitsThere (IsNumberBelow setting.grammar) (alone_at address tree) r place → StandsNoLater (address, 0) place
         first place (t, there, _, _) = by_node (sym (only_here address tree place.0 t there).0) (omega arith)
 
     pub nowhere_alone : HasOneRoot tree → ¬ InSet 0 → Leads None
-    nowhere_alone root not_root = nowhere (own_below g r high set is_type are tree None none_own) nothing
+    nowhere_alone root not_root = nowhere (own_below setting r high set is_type are tree None none_own) nothing
       where
         not_on_the_way : (n : ℕ) → Contains (flat_map (locals tree) none_own.path) n → ¬ InSet n
         not_on_the_way = by none_own.first
@@ -98,12 +98,12 @@ module _ (g : Grammar) (r : Reference) (high : List ℕ) (set : FinSet nat_cmp) 
         not_exported zero exported is = not_root is
         not_exported (suc k) exported is = not_on_the_way (suc k) (on_the_way tree root r.owner.0 (suc k) none_own.path none_own.leads exported (λ same. omega (arith, same))) is
 
-        nothing : (place : List ℕ × ℕ) → ¬ FitsThere (IsNumberBelow g) (alone_at address tree) r place
+        nothing : (place : List ℕ × ℕ) → ¬ FitsThere (IsNumberBelow setting.grammar) (alone_at address tree) r place
         nothing place (t, there, exported, (type, named, under)) =
             let same = (only_here address tree place.0 t there).1 in
-            let here : Fits (IsNumberBelow g) tree r place.1 = subst (λ (x : Parts). Fits (IsNumberBelow g) x r place.1) (sym same) (type, named, under) in
+            let here : Fits (IsNumberBelow setting.grammar) tree r place.1 = subst (λ (x : Parts). Fits (IsNumberBelow setting.grammar) x r place.1) (sym same) (type, named, under) in
             not_exported place.1 (subst (λ (x : Parts). Contains (exports x) place.1) (sym same) exported)
-            (here.0, here.1, inside g r high set is_type are here.0 here.2)
+            (here.0, here.1, inside setting r high set is_type are here.0 here.2)
 
     pub root_leads : HasOneRoot tree → (answer : Answer) → IsRootAnswer tree r.name set answer → Leads (link_at address answer)
     root_leads root (Found target) (at, is) = subst (λ (n : ℕ). Leads (Some (address, n))) (sym at) (root_alone is)

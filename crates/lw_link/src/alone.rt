@@ -2,9 +2,10 @@
 ghost use Rattle.std.specs.Prelude.{ℕ, ◌≡◌, ◌<◌, List, IfOk, All, length, map};
 ghost use Rattle.std.specs.List.{AllZip};
 ghost use Rattle.lw_grammar.specs.declared.grammar.Grammar.{Grammar};
+ghost use Rattle.lw_link_rules.specs.Setting.{Setting};
 ghost use Rattle.lw_reading.specs.Known.{HasKnownTypes, HasOneRoot};
 ghost use Rattle.lw_link_rules.specs.Diagnostics.{alone_at};
-ghost use Rattle.lw_link_rules.specs.Links.{IsNumberBelow};
+ghost use Rattle.lw_link_rules.specs.Links.{rules_of};
 ghost use Rattle.lw_scoping.specs.Links.{LinksTo};
 ghost use Rattle.lw_scoping.specs.Outward.{ContainersComeFirst};
 ghost use Rattle.lw_symbols.specs.Locals.{AreLocalsOf};
@@ -36,8 +37,8 @@ pub fn answers_alone(
     requires owners { All (λ r. r.owner.0 < length tree.now.nodes) tree.now.refs }
     requires known { (g : Grammar) × AreTypesOf g types.now × HasKnownTypes g tree.now }
     ensures count { IfOk result (λ found. length found.items ≡ length tree.now.refs) }
-    ensures links { (g : Grammar) (address : List ℕ) → AreTypesOf g types.now →
-        IfOk result (λ found. AllZip (LinksTo (IsNumberBelow g) (alone_at address tree.now) address tree.now) tree.now.refs (map (link_at address) found.items)) }
+    ensures links { (setting : Setting) (address : List ℕ) → AreTypesOf setting.grammar types.now →
+        IfOk result (λ found. AllZip (LinksTo (rules_of setting) (alone_at address tree.now) address tree.now) tree.now.refs (map (link_at address) found.items)) }
 {
     let mut found = Vec::with_capacity(alloc, tree.refs().len())?;
     for reference in tree.refs() {
@@ -53,8 +54,8 @@ fn answer_alone(tree: &Tree, locals: &Locals, types: &Types, reference: &Referen
     requires root { HasOneRoot tree.now }
     requires owner { reference.now.owner.0 < length tree.now.nodes }
     requires known { (g : Grammar) × AreTypesOf g types.now × (reference.now.want.0 < length (type_names g)) }
-    ensures { (g : Grammar) (address : List ℕ) → AreTypesOf g types.now →
-        LinksTo (IsNumberBelow g) (alone_at address tree.now) address tree.now reference.now (link_at address result) }
+    ensures { (setting : Setting) (address : List ℕ) → AreTypesOf setting.grammar types.now →
+        LinksTo (rules_of setting) (alone_at address tree.now) address tree.now reference.now (link_at address result) }
 {
     let fits = types.subs(reference.want);
     match own_answer(tree, locals, reference, fits) {

@@ -2,7 +2,8 @@
 ghost use Rattle.std.specs.Prelude.{◌≡◌, ◌<◌, ◌≤◌, ◌+◌, ◌⊎◌, ℕ, List, Some, IfOk, All, length, map, slice_get};
 ghost use Rattle.std.specs.List.{AllZip};
 ghost use Rattle.lw_grammar.specs.declared.grammar.Grammar.{Grammar};
-ghost use Rattle.lw_link_rules.specs.Links.{IsNumberBelow};
+ghost use Rattle.lw_link_rules.specs.Setting.{Setting};
+ghost use Rattle.lw_link_rules.specs.Links.{rules_of};
 ghost use Rattle.lw_scoping.specs.Links.{LinksTo, Trees};
 ghost use Rattle.lw_scoping.specs.Outward.{ContainersComeFirst};
 ghost use Rattle.lw_symbols.specs.Locals.{AreLocalsOf};
@@ -35,9 +36,9 @@ fn answer_to<L: Ledger>(
     requires outwards { ContainersComeFirst tree.now }
     requires owner { reference.now.owner.0 < length tree.now.nodes }
     requires known { (g : Grammar) × AreTypesOf g types.now × (reference.now.want.0 < length (type_names g)) }
-    ensures link { (g : Grammar) (trees : Trees) (address : List ℕ) → AreTypesOf g types.now → IsIndexOf trees index.now →
+    ensures link { (setting : Setting) (trees : Trees) (address : List ℕ) → AreTypesOf setting.grammar types.now → IsIndexOf trees index.now →
         IsDocumentOf trees index.now doc.0 address tree.now →
-        LinksTo (IsNumberBelow g) trees address tree.now reference.now (link_of index.now result) }
+        LinksTo (rules_of setting) trees address tree.now reference.now (link_of index.now result) }
     ensures held { (trees : Trees) (address : List ℕ) → IsDocumentOf trees index.now doc.0 address tree.now → LeadsIntoHeld index.now result }
     ensures ticks { (steps.new ≡ steps.old) ⊎ (steps.new ≡ steps.old + 1) }
 {
@@ -67,9 +68,9 @@ pub fn resolve<L: Ledger>(
     requires outwards { ContainersComeFirst tree.now }
     requires owners { All (λ r. r.owner.0 < length tree.now.nodes) tree.now.refs }
     requires known { (g : Grammar) × AreTypesOf g types.now × HasKnownTypes g tree.now }
-    ensures link { (g : Grammar) (trees : Trees) (address : List ℕ) (r : Reference) → AreTypesOf g types.now → IsIndexOf trees index.now →
+    ensures link { (setting : Setting) (trees : Trees) (address : List ℕ) (r : Reference) → AreTypesOf setting.grammar types.now → IsIndexOf trees index.now →
         IsDocumentOf trees index.now doc.0 address tree.now → slice_get tree.now.refs reference.0 ≡ Some r →
-        LinksTo (IsNumberBelow g) trees address tree.now r (link_of index.now result) }
+        LinksTo (rules_of setting) trees address tree.now r (link_of index.now result) }
     ensures held { (trees : Trees) (address : List ℕ) → IsDocumentOf trees index.now doc.0 address tree.now → LeadsIntoHeld index.now result }
     ensures ticks { (steps.new ≡ steps.old) ⊎ (steps.new ≡ steps.old + 1) }
 {
@@ -92,9 +93,9 @@ pub fn answers<L: Ledger>(
     requires owners { All (λ r. r.owner.0 < length tree.now.nodes) tree.now.refs }
     requires known { (g : Grammar) × AreTypesOf g types.now × HasKnownTypes g tree.now }
     ensures count { IfOk result (λ found. length found.items ≡ length tree.now.refs) }
-    ensures links { (g : Grammar) (trees : Trees) (address : List ℕ) → AreTypesOf g types.now → IsIndexOf trees index.now →
+    ensures links { (setting : Setting) (trees : Trees) (address : List ℕ) → AreTypesOf setting.grammar types.now → IsIndexOf trees index.now →
         IsDocumentOf trees index.now doc.0 address tree.now →
-        IfOk result (λ found. AllZip (LinksTo (IsNumberBelow g) trees address tree.now) tree.now.refs (map (link_of index.now) found.items)) }
+        IfOk result (λ found. AllZip (LinksTo (rules_of setting) trees address tree.now) tree.now.refs (map (link_of index.now) found.items)) }
     ensures held { (trees : Trees) (address : List ℕ) → IsDocumentOf trees index.now doc.0 address tree.now →
         IfOk result (λ found. All (LeadsIntoHeld index.now) found.items) }
     ensures ticks { (steps.old ≤ steps.new) × (steps.new ≤ steps.old + length tree.now.refs) }

@@ -7,10 +7,11 @@ ghost use Rattle.std.specs.declared.cmp.Ordering.TheVariants.{Less};
 ghost use Rattle.lw_base.specs.declared.numbers.NodeId.{NodeId};
 ghost use Rattle.lw_faults.specs.Finding.{Finds, OfSome};
 ghost use Rattle.lw_grammar.specs.declared.grammar.Grammar.{Grammar};
+ghost use Rattle.lw_link_rules.specs.Setting.{Setting};
 ghost use Rattle.lw_numbers.specs.Numbering.{type_names};
 ghost use Rattle.lw_places.specs.Targets.{AreVisible, HasTarget};
 ghost use Rattle.lw_reading.specs.Known.{HasOneRoot};
-ghost use Rattle.lw_link_rules.specs.Links.{IsNumberBelow};
+ghost use Rattle.lw_link_rules.specs.Links.{rules_of};
 ghost use Rattle.lw_scoping.specs.Links.{Trees};
 ghost use Rattle.lw_scoping.specs.Outward.{ContainersComeFirst, LeadsOut};
 ghost use Rattle.lw_scoping.specs.Symbols.{locals as locals_of};
@@ -120,8 +121,8 @@ pub fn visible(
     requires root { HasOneRoot tree.now }
     requires owner { reference.now.owner.0 < length tree.now.nodes }
     requires known { (g : Grammar) × AreTypesOf g types.now × (reference.now.want.0 < length (type_names g)) }
-    ensures { (g : Grammar) (trees : Trees) (address : List ℕ) → AreTypesOf g types.now → IsIndexOf trees index.now → IsNumberAt index.now doc.0 address →
-        IfOk result (λ names. AreVisible (IsNumberBelow g) trees address tree.now reference.now names.items) }
+    ensures { (setting : Setting) (trees : Trees) (address : List ℕ) → AreTypesOf setting.grammar types.now → IsIndexOf trees index.now → IsNumberAt index.now doc.0 address →
+        IfOk result (λ names. AreVisible (rules_of setting) trees address tree.now reference.now names.items) }
 {
     let fits = types.subs(reference.want);
     let mut names = index.names(alloc, doc, fits)?;
@@ -146,8 +147,8 @@ pub fn finds(
     requires root { HasOneRoot tree.now }
     requires owner { reference.now.owner.0 < length tree.now.nodes }
     requires known { (g : Grammar) × AreTypesOf g types.now × (reference.now.want.0 < length (type_names g)) }
-    ensures { (g : Grammar) (trees : Trees) (address : List ℕ) → AreTypesOf g types.now → IsIndexOf trees index.now → IsNumberAt index.now doc.0 address →
-        IsTrue result ↔ HasTarget (IsNumberBelow g) trees address tree.now reference.now }
+    ensures { (setting : Setting) (trees : Trees) (address : List ℕ) → AreTypesOf setting.grammar types.now → IsIndexOf trees index.now → IsNumberAt index.now doc.0 address →
+        IsTrue result ↔ HasTarget (rules_of setting) trees address tree.now reference.now }
 {
     let fits = types.subs(reference.want);
     if own_answer(tree, locals, reference, fits).is_some() {

@@ -13,6 +13,7 @@ use Rattle.lw_scoping.proofs.Paths.{leads_out}
 use Rattle.lw_machine.proofs.Finite.{Decided, Listed, Least, least, as_listed, each_listed, none_listed, one_listed}
 use Rattle.lw_machine.proofs.Comparing.{order, Compared, compared, before, same, after, further, same_text}
 use Rattle.lw_machine.proofs.Nodes.{IsCalled, among, called, first_in, one_name, one_type, so_named}
+use Rattle.lw_scoping.specs.Rules.{Rules}
 
 -- ---- places
 
@@ -74,63 +75,63 @@ module _ (addresses : List (List ℕ)) (trees : Trees) (all : StandAmong address
       (λ address has. exports_there address))
 
   -- ---- links
-  module _ (below : ℕ → ℕ → Type 0) (decide : (a b : ℕ) → Decided (below a b)) where
-    fits : (tree : Parts) (r : Reference) (n : ℕ) → Decided (Fits below tree r n)
+  module _ (rules : Rules) (decide : (a b : ℕ) → Decided (rules a b)) where
+    fits : (tree : Parts) (r : Reference) (n : ℕ) → Decided (Fits rules.below tree r n)
     fits tree r n = by (called tree n)
       where
-        check : (c : IsCalled tree n) → Decided (c.name ≡ r.name) → Decided (below c.node.type_id.0 r.want.0) →
-            Decided (Fits below tree r n)
+        check : (c : IsCalled tree n) → Decided (c.name ≡ r.name) → Decided (rules c.node.type_id.0 r.want.0) →
+            Decided (Fits rules.below tree r n)
         check c (inl alike) (inl wanted) =
             inl (c.node.type_id.0, subst (λ name. IsNamedNode tree n name c.node.type_id.0) alike (so_named tree n c), wanted)
-        check c (inl alike) (inr not) = inr (λ is. not (subst (λ t. below t r.want.0) (sym (one_type tree n c r.name is.0 is.1)) is.2))
+        check c (inl alike) (inr not) = inr (λ is. not (subst (λ t. rules t r.want.0) (sym (one_type tree n c r.name is.0 is.1)) is.2))
         check c (inr not) wanted = inr (λ is. not (one_name tree n c r.name is.0 is.1))
 
-        by : IsCalled tree n ⊎ ((name : List ℕ) (type : ℕ) → ¬ IsNamedNode tree n name type) → Decided (Fits below tree r n)
+        by : IsCalled tree n ⊎ ((name : List ℕ) (type : ℕ) → ¬ IsNamedNode tree n name type) → Decided (Fits rules.below tree r n)
         by (inl c) = check c (same_text c.name r.name) (decide c.node.type_id.0 r.want.0)
         by (inr never) = inr (λ is. never r.name is.0 is.1)
 
-    fits_there : (r : Reference) (place : List ℕ × ℕ) → Decided (FitsThere below trees r place)
+    fits_there : (r : Reference) (place : List ℕ × ℕ) → Decided (FitsThere rules.below trees r place)
     fits_there r place = by (trees place.0) refl
       where
         check : (tree : Parts) → trees place.0 ≡ Some tree → Decided (Contains (exports tree) place.1) →
-            Decided (Fits below tree r place.1) → Decided (FitsThere below trees r place)
+            Decided (Fits rules.below tree r place.1) → Decided (FitsThere rules.below trees r place)
         check tree given (inl has) (inl does) = inl (tree, given, has, does)
         check tree given (inl has) (inr not) =
-            inr (λ is. not (subst (λ (t : Parts). Fits below t r place.1) (same_Some is.0 tree (sym is.1 ∙ given)) is.3))
+            inr (λ is. not (subst (λ (t : Parts). Fits rules.below t r place.1) (same_Some is.0 tree (sym is.1 ∙ given)) is.3))
         check tree given (inr not) does =
             inr (λ is. not (subst (λ (t : Parts). Contains (exports t) place.1) (same_Some is.0 tree (sym is.1 ∙ given)) is.2))
 
-        by : (o : Option Parts) → trees place.0 ≡ o → Decided (FitsThere below trees r place)
+        by : (o : Option Parts) → trees place.0 ≡ o → Decided (FitsThere rules.below trees r place)
         by None absent = inr (λ is. none-some is.0 (sym absent ∙ is.1))
         by (Some tree) given = check tree given (among (exports tree) place.1) (fits tree r place.1)
 
     module _ (address : List ℕ) (tree : Parts) (first : ContainersComeFirst tree) (r : Reference)
         (inside : r.owner.0 < length tree.nodes) where
-      pub link : (l : Link) × LinksTo below trees address tree r l
+      pub link : (l : Link) × LinksTo rules trees address tree r l
       link = by is_own
         where
-          is_own : (o : Option ℕ) × IsOwn below tree r o
+          is_own : (o : Option ℕ) × IsOwn rules.below tree r o
           is_own =
               let path = leads_out tree first r.owner.0 inside in
-              let is = first_in (Fits below tree r) (fits tree r) (flat_map (locals tree) path.0) in
+              let is = first_in (Fits rules.below tree r) (fits tree r) (flat_map (locals tree) path.0) in
               (is.0, record { path = path.0; leads = path.1; first = is.1 })
 
-          outside : IsOwn below tree r None → Least (FitsThere below trees r) StandsNoLater all_exports.0 →
-              (l : Link) × LinksTo below trees address tree r l
+          outside : IsOwn rules.below tree r None → Least (FitsThere rules.below trees r) StandsNoLater all_exports.0 →
+              (l : Link) × LinksTo rules trees address tree r l
           outside none (inl (place, does, least_one)) =
               (Some place, out none does (λ other is. least_one other ((all_exports.1 other).1 (is.0, is.1, is.2)) is))
           outside none (inr misses) = (None, nowhere none (λ other is. misses other ((all_exports.1 other).1 (is.0, is.1, is.2)) is))
 
-          by : ((o : Option ℕ) × IsOwn below tree r o) → (l : Link) × LinksTo below trees address tree r l
+          by : ((o : Option ℕ) × IsOwn rules.below tree r o) → (l : Link) × LinksTo rules trees address tree r l
           by (Some n, is) = (Some (address, n), own is)
           by (None, is) =
               outside is
-              (least (FitsThere below trees r) StandsNoLater no_later_itself no_later_further one_no_later (fits_there r) all_exports.0)
+              (least (FitsThere rules.below trees r) StandsNoLater no_later_itself no_later_further one_no_later (fits_there r) all_exports.0)
 
       -- it leads nowhere, or it does not
-      pub leads_nowhere : Decided (LinksTo below trees address tree r None)
+      pub leads_nowhere : Decided (LinksTo rules trees address tree r None)
       leads_nowhere = by link
         where
-          by : ((l : Link) × LinksTo below trees address tree r l) → Decided (LinksTo below trees address tree r None)
+          by : ((l : Link) × LinksTo rules trees address tree r l) → Decided (LinksTo rules trees address tree r None)
           by (None, is) = inl is
-          by (Some place, is) = inr (λ was. none-some place (one_target below trees address tree r None (Some place) was is))
+          by (Some place, is) = inr (λ was. none-some place (one_target rules trees address tree r None (Some place) was is))

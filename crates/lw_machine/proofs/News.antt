@@ -7,7 +7,7 @@ use Rattle.std.specs.Cmp.{tied_itself}
 use Rattle.std.specs.Cmp.Lexicographic.{nat_list_cmp_total}
 use Rattle.std.specs.FinMap.{get, insert, entries, is_sorted, entries_sorted}
 use Rattle.std.specs.FinMap.Entries.{below_all}
-use Rattle.lw_grammar.specs.declared.grammar.Grammar.{Grammar}
+use Rattle.lw_link_rules.specs.Setting.{Setting}
 use Rattle.lw_text.specs.declared.shown.Shown.{Shown}
 use Rattle.lw_machine.specs.declared.published.Published.{Published}
 use Rattle.lw_machine.specs.declared.state.State.{State}
@@ -66,9 +66,9 @@ still_late m a d list is late b e held = by (one_or_two b a)
         omega arith
     by (inr apart) = late b e (sym (put_elsewhere m a (validated d list) b apart) ∙ held)
 
-module _ (g : Grammar) where
+module _ (setting : Setting) where
   -- what is validated then stays as it is
-  one_stays : (m o : Documents) (published : List Published) → Builds g m o published → AreLate m → AreLate o × ((a : List ℕ) (d : Document) → get m a ≡ Some d →
+  one_stays : (m o : Documents) (published : List Published) → Builds setting m o published → AreLate m → AreLate o × ((a : List ℕ) (d : Document) → get m a ≡ Some d →
       d.state ≡ Validated → get o a ≡ Some d)
   one_stays m o published (rises {address = b} {d = e} taken no_show no_list) late =
       absurd (no_list (validates_next e.state (late b e taken.held) taken.unfinished))
@@ -83,7 +83,7 @@ module _ (g : Grammar) where
           let apart = sym last ∙ ap (λ (x : Document). x.state) same ∙ is in cc
   one_stays m o published (rests built) late = (late, λ a d held last. held)
 
-  stays_validated : (m n : Documents) (published : List Published) → BuildsToEnd g m n published → AreLate m → (a : List ℕ) (d : Document) → get m a ≡ Some d →
+  stays_validated : (m n : Documents) (published : List Published) → BuildsToEnd setting m n published → AreLate m → (a : List ℕ) (d : Document) → get m a ≡ Some d →
       d.state ≡ Validated → get n a ≡ Some d
   stays_validated m n published (done built) late a d held last = held
   stays_validated m n published (step {n = o} {o = end} {first = told} {others = others} taken does rest) late a d held last =
@@ -152,7 +152,7 @@ module _ (m o n : Documents) (address : List ℕ) (d : Document) (list : List Sh
           (here_news rest heard others (subst (λ a. T (below_all order a rest)) here parts.0) publishes (subst (λ x. AreNews o (x ∷ rest) others) entry are))
       by Greater is news = absurd (behind e.0 e.1 rest parts.0 is there)
 
-module _ (g : Grammar) where
+module _ (setting : Setting) where
   late_from_first : (m : Documents) (a : List ℕ) (d : Document) → IsNext m a d → d.state ≡ IndexedReferences → AreLate m
   late_from_first m a d taken is b e held = by (taken.first b e held)
     where
@@ -175,7 +175,7 @@ module _ (g : Grammar) where
   was_there (Some e) p f same is = (e, refl)
 
   validating : (m n : Documents) (a : List ℕ) (d : Document) (list : List Shown) (told others : List Published) → IsNext m a d → d.state ≡ IndexedReferences →
-      Publishes a d list told → BuildsToEnd g (insert m a (validated d list)) n others → AreNews (insert m a (validated d list)) (entries n) others →
+      Publishes a d list told → BuildsToEnd setting (insert m a (validated d list)) n others → AreNews (insert m a (validated d list)) (entries n) others →
       AreNews m (entries n) (told ++ others)
   validating m n a d list told others taken is publishes rest are =
       all_news m o n a d list quiet (list_of o a (Some (validated d list)) (put_here m a (validated d list))) (list_of m a (Some d) taken.held) now elsewhere (entries n)
@@ -188,7 +188,7 @@ module _ (g : Grammar) where
       late = still_late m a d list is (late_from_first m a d taken is)
 
       now : get n a ≡ Some (validated d list)
-      now = stays_validated g o n others rest late a (validated d list) (put_here m a (validated d list)) (ap next is)
+      now = stays_validated setting o n others rest late a (validated d list) (put_here m a (validated d list)) (ap next is)
 
       elsewhere : (b : List ℕ) → b ≢ a → last_list m b ≡ last_list (insert m a (validated d list)) b
       elsewhere b apart = sym (ap (option_and_then (λ (x : Document). x.published)) (put_elsewhere m a (validated d list) b apart))
@@ -200,28 +200,28 @@ module _ (g : Grammar) where
           (last_list m b ≡ f.published) × (last_list (insert m a (validated d list)) b ≡ f.published)
       quiet b f held below =
           let apart = not_here b below in
-          let there = was_there (get (insert m a (validated d list)) b) (get n b) f (to_end_same g o n others rest b) held in
+          let there = was_there (get (insert m a (validated d list)) b) (get n b) f (to_end_same setting o n others rest b) held in
           let e = there.0 in
           let before : get m b ≡ Some e = sym (put_elsewhere m a (validated d list) b apart) ∙ there.1 in
           let last = before_is_validated m a d b e is below (taken.first b e before) in
-          let same : f ≡ e = same_Some f e (sym held ∙ stays_validated g o n others rest late b e there.1 last) in
+          let same : f ≡ e = same_Some f e (sym held ∙ stays_validated setting o n others rest late b e there.1 last) in
           let list_then = list_of m b (Some e) before ∙ ap (λ (x : Document). x.published) (sym same) in
           (list_then, sym (elsewhere b apart) ∙ list_then)
 
-  after_step : (m o n : Documents) (told others : List Published) → Builds g m o told → BuildsToEnd g o n others → AreNews o (entries n) others →
+  after_step : (m o n : Documents) (told others : List Published) → Builds setting m o told → BuildsToEnd setting o n others → AreNews o (entries n) others →
       AreNews m (entries n) (told ++ others)
   after_step m o n told others (rises {address = a} {d = d} taken no_show no_list) rest are =
       alike m (insert m a (risen d)) (entries n) others
       (λ b e there. sym (put_alike (option_and_then (λ (x : Document). x.published)) (λ d s. refl) m a d (risen d) taken.held refl b)) are
   after_step m o n told others (shows {address = a} {d = d} {n = p} taken is settled) rest are =
       alike m p (entries n) others
-      (λ b e there. sym (settled_alike (option_and_then (λ (x : Document). x.published)) (λ d s. refl) g (shown_texts m) a (insert m a (indexed d)) p settled b
+      (λ b e there. sym (settled_alike (option_and_then (λ (x : Document). x.published)) (λ d s. refl) setting (shown_texts m) a (insert m a (indexed d)) p settled b
       ∙ put_alike (option_and_then (λ (x : Document). x.published)) (λ d s. refl) m a d (indexed d) taken.held refl b)) are
   after_step m o n told others (validates {address = a} {d = d} {list = list} {published = news} taken is are_list publishes) rest are =
       validating m n a d list news others taken is publishes rest are
   after_step m o n told others (rests built) rest are = are
 
-  pub news : (m n : Documents) (published : List Published) → BuildsToEnd g m n published → AreNews m (entries n) published
+  pub news : (m n : Documents) (published : List Published) → BuildsToEnd setting m n published → AreNews m (entries n) published
   news m n published (done built) = no_news m (entries m) (λ a d there. list_of m a (Some d) (entry_held m a d there))
   news m n published (step {n = o} {o = end} {first = told} {others = others} taken does rest) =
       after_step m o end told others does rest (news o end others rest)

@@ -1,7 +1,7 @@
 -- A step of the build has one outcome, and so has a build.
 use Rattle.std.proofs.Common.{◌≡◌, ◌≢◌, ℕ, List, ◌++◌, Option, Some, inl, inr, ◌⊎◌, sym, refl, ap, ap₂, ◌∙◌, subst, subst₂, arith}
 use Rattle.std.specs.FinMap.{get, insert}
-use Rattle.lw_grammar.specs.declared.grammar.Grammar.{Grammar}
+use Rattle.lw_link_rules.specs.Setting.{Setting}
 use Rattle.lw_text.specs.declared.shown.Shown.{Shown}
 use Rattle.lw_reading.specs.Laws.{IsReadOneWay}
 use Rattle.lw_machine.specs.declared.published.Published.{Published}
@@ -26,16 +26,16 @@ one_published address d list p q (same is) (other apart) = absurd (apart is)
 one_published address d list p q (other apart) (same is) = absurd (apart is)
 one_published address d list p q (other apart) (other also) = refl
 
-module _ (g : Grammar) (one_way : IsReadOneWay g) where
+module _ (setting : Setting) (one_way : IsReadOneWay setting.grammar) where
   module _ (before after : Texts) (address : List ℕ) where
-    links : {A : Type 0} → Differ (AreLinks g before address) (AreLinks g after address) → Agree (AreLinks g before address) (AreLinks g after address) → A
-    links = never_both _ _ (one_list_of_links g one_way before address) (one_list_of_links g one_way after address)
+    links : {A : Type 0} → Differ (AreLinks setting before address) (AreLinks setting after address) → Agree (AreLinks setting before address) (AreLinks setting after address) → A
+    links = never_both _ _ (one_list_of_links setting one_way before address) (one_list_of_links setting one_way after address)
 
-    lists : {A : Type 0} → Differ (AreDiagnostics g before address) (AreDiagnostics g after address) →
-        Agree (AreDiagnostics g before address) (AreDiagnostics g after address) → A
-    lists = never_both _ _ (one_list g one_way before address) (one_list g one_way after address)
+    lists : {A : Type 0} → Differ (AreDiagnostics setting before address) (AreDiagnostics setting after address) →
+        Agree (AreDiagnostics setting before address) (AreDiagnostics setting after address) → A
+    lists = never_both _ _ (one_list setting one_way before address) (one_list setting one_way after address)
 
-    one_settled : (d e f : Document) → Settles g before after address d e → Settles g before after address d f → e ≡ f
+    one_settled : (d e f : Document) → Settles setting before after address d e → Settles setting before after address d f → e ≡ f
     one_settled d e f (links_differ high differ) (links_differ too also) = refl
     one_settled d e f (links_differ high differ) (list_differs is agree also) = links differ agree
     one_settled d e f (links_differ high differ) (list_agrees is agree also) = links differ agree
@@ -62,11 +62,11 @@ module _ (g : Grammar) (one_way : IsReadOneWay g) where
     one_settled d e f (not_linked low) (links_agree high under agree) = refl
     one_settled d e f (not_linked low) (not_linked under) = refl
 
-    one_settled_at : (o p q : Option Document) → SettlesAt g before after address o p → SettlesAt g before after address o q → p ≡ q
+    one_settled_at : (o p q : Option Document) → SettlesAt setting before after address o p → SettlesAt setting before after address o q → p ≡ q
     one_settled_at o p q settling.none settling.none = refl
     one_settled_at o p q (settling.held {d = d} {e = e} settles) (settling.held {e = f} also) = ap Some (one_settled d e f settles also)
 
-  pub all_settled : (before : Texts) (address : List ℕ) (m n o : Documents) → IsSettled g before address m n → IsSettled g before address m o → n ≡ o
+  pub all_settled : (before : Texts) (address : List ℕ) (m n o : Documents) → IsSettled setting before address m n → IsSettled setting before address m o → n ≡ o
   all_settled before address m n o settled also = same_documents n o (λ place. by place (one_or_two place address))
     where
       by : (place : List ℕ) → (place ≡ address) ⊎ (place ≢ address) → get n place ≡ get o place
@@ -83,7 +83,7 @@ module _ (g : Grammar) (one_way : IsReadOneWay g) where
   built_or_next : {A : Type 0} (m : Documents) (address : List ℕ) (d : Document) → IsBuilt m → IsNext m address d → A
   built_or_next m address d built taken = absurd (let low = taken.unfinished in let last = ap rank (built address d taken.held) in omega arith)
 
-  pub one_step : (m n o : Documents) (p q : List Published) → Builds g m n p → Builds g m o q → AreOne n p o q
+  pub one_step : (m n o : Documents) (p q : List Published) → Builds setting m n p → Builds setting m o q → AreOne n p o q
   one_step m n o p q (rises {address = a} {d = d} taken no_show no_list) (rises {address = b} {d = e} also not_shown not_told) =
       let is = one_next m b e a d also taken in (ap₂ (λ x y. insert m x (risen y)) is.0 is.1, refl)
   one_step m n o p q (rises {address = a} {d = d} taken no_show no_list) (shows {address = b} {d = e} also is settled) =
@@ -96,7 +96,7 @@ module _ (g : Grammar) (one_way : IsReadOneWay g) where
   one_step m n o p q (shows {address = a} {d = d} {n = r} taken is settled) (shows {address = b} {d = e} {n = s} also was too) =
       let one = one_next m a d b e taken also in (
         all_settled (shown_texts m) a (insert m a (indexed d)) r s settled
-            (subst₂ (λ x y. IsSettled g (shown_texts m) x (insert m x (indexed y)) s) one.0 one.1 too),
+            (subst₂ (λ x y. IsSettled setting (shown_texts m) x (insert m x (indexed y)) s) one.0 one.1 too),
         refl,
       )
   one_step m n o p q (shows {address = a} {d = d} taken is settled) (validates {address = b} {d = e} also was are publishes) =
@@ -109,7 +109,7 @@ module _ (g : Grammar) (one_way : IsReadOneWay g) where
   one_step m n o p q (validates {address = a} {d = d} {list = list} {published = told} taken is are publishes)
       (validates {address = b} {d = e} {list = second} {published = telling} also was were publishing) =
       let one = one_next m a d b e taken also in
-      let list_is = one_list g one_way (shown_texts m) a list second are (subst (λ x. AreDiagnostics g (shown_texts m) x second) one.0 were) in
+      let list_is = one_list setting one_way (shown_texts m) a list second are (subst (λ x. AreDiagnostics setting (shown_texts m) x second) one.0 were) in
       let back = subst₂ (λ x y. Publishes x y second telling) one.0 one.1 publishing in (
         ap₂ (λ x y. insert m x y) (sym one.0) (ap₂ (λ x y. validated x y) (sym one.1) list_is),
         one_published a d second told telling (subst (λ l. Publishes a d l told) list_is publishes) back,
@@ -120,11 +120,11 @@ module _ (g : Grammar) (one_way : IsReadOneWay g) where
   one_step m n o p q (rests built) (validates {address = b} {d = e} also is are publishes) = built_or_next m b e built also
   one_step m n o p q (rests built) (rests too) = (refl, refl)
 
-  pub one_build : (m n o : Documents) (p q : List Published) → BuildsToEnd g m n p → BuildsToEnd g m o q → AreOne n p o q
+  pub one_build : (m n o : Documents) (p q : List Published) → BuildsToEnd setting m n p → BuildsToEnd setting m o q → AreOne n p o q
   one_build m n o p q (done built) (done too) = (refl, refl)
   one_build m n o p q (done built) (step {address = b} {d = e} taken does rest) = built_or_next m b e built taken
   one_build m n o p q (step {address = a} {d = d} taken does rest) (done built) = built_or_next m a d built taken
   one_build m n o p q (step {n = r} {first = f} {others = fs} taken does rest) (step {n = s} {first = h} {others = hs} also did more) =
       let one = one_step m r s f h does did in
-      let end = one_build r n o fs hs rest (subst (λ x. BuildsToEnd g x o hs) (sym one.0) more) in
+      let end = one_build r n o fs hs rest (subst (λ x. BuildsToEnd setting x o hs) (sym one.0) more) in
       (end.0, ap₂ (λ x y. x ++ y) one.1 end.1)

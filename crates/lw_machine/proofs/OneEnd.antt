@@ -2,7 +2,7 @@
 use Rattle.std.proofs.Common.{◌≡◌, ℕ, ℤ, Bool, List, ◌∷◌, Option, Some, None, option_map, option_and_then, refl, sym, ap, ap₂, ◌∙◌}
 use Rattle.std.proofs.lemmas.Option.{same_Some}
 use Rattle.std.specs.FinMap.{get}
-use Rattle.lw_grammar.specs.declared.grammar.Grammar.{Grammar}
+use Rattle.lw_link_rules.specs.Setting.{Setting}
 use Rattle.lw_reading.specs.Laws.{IsReadOneWay}
 use Rattle.lw_link_rules.proofs.OneList.{one_list}
 use Rattle.lw_link_rules.proofs.SameTexts.{diagnostics_of_same_texts}
@@ -31,9 +31,9 @@ text_in : (o : Option Document) →
 text_in None = refl
 text_in (Some d) = refl
 
-module _ (g : Grammar) where
+module _ (setting : Setting) where
   -- others see the present texts
-  present : (m : Documents) → AreCurrent g m → (address : List ℕ) → shown_texts m address ≡ present_texts m address
+  present : (m : Documents) → AreCurrent setting m → (address : List ℕ) → shown_texts m address ≡ present_texts m address
   present m current address = by (get m address) refl
     where
       by : (o : Option Document) → get m address ≡ o →
@@ -41,13 +41,13 @@ module _ (g : Grammar) where
       by None is = refl
       by (Some d) is = (current address d is).shown
 
-  module _ (one_way : IsReadOneWay g) (m n : Documents) (current : AreCurrent g m) (now : AreCurrent g n) (same : HaveSameContent m n) where
+  module _ (one_way : IsReadOneWay setting.grammar) (m n : Documents) (current : AreCurrent setting m) (now : AreCurrent setting n) (same : HaveSameContent m n) where
     same_texts : (address : List ℕ) → shown_texts m address ≡ shown_texts n address
     same_texts address =
         present m current address ∙ text_in (get m address) ∙ ap (option_map (λ (c : List ℕ × Option ℤ × Bool). c.0)) (sym (same address))
         ∙ sym (text_in (get n address)) ∙ sym (present n now address)
 
-    one_document : (address : List ℕ) (d e : Document) → IsCurrent g m address d → IsCurrent g n address e → content e ≡ content d → d ≡ e
+    one_document : (address : List ℕ) (d e : Document) → IsCurrent setting m address d → IsCurrent setting n address e → content e ≡ content d → d ≡ e
     one_document address d e is was alike =
         let text : d.text ≡ e.text = ap (λ (c : List ℕ × Option ℤ × Bool). c.0) (sym alike) in
         let version : d.version ≡ e.version = ap (λ (c : List ℕ × Option ℤ × Bool). c.1) (sym alike) in
@@ -55,8 +55,8 @@ module _ (g : Grammar) where
         let state : d.state ≡ e.state = is.state ∙ sym was.state in
         let seen : d.shown ≡ e.shown = is.shown ∙ ap Some text ∙ sym was.shown in
         let list : is.told.0 ≡ was.told.0 =
-        one_list g one_way (shown_texts n) address is.told.0 was.told.0
-        (diagnostics_of_same_texts g (shown_texts m) (shown_texts n) same_texts address is.told.0 is.told.2) was.told.2 in
+        one_list setting one_way (shown_texts n) address is.told.0 was.told.0
+        (diagnostics_of_same_texts setting (shown_texts m) (shown_texts n) same_texts address is.told.0 is.told.2) was.told.2 in
         let told : d.published ≡ e.published = is.told.1 ∙ ap Some list ∙ sym was.told.1 in
         λ i. record { text = text i; version = version i; is_open = open_too i; state = state i; shown = seen i; published = told i }
 

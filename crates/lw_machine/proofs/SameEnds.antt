@@ -1,7 +1,7 @@
 -- Current documents of the same content are what a build comes to; so documents of the same content and last lists have one end.
 use Rattle.std.proofs.Common.{◌≡◌, ℕ, List, Option, Some, None, option_map, option_and_then, refl, sym, ap, ◌∙◌, subst, subst₂}
 use Rattle.std.specs.FinMap.{get, entries}
-use Rattle.lw_grammar.specs.declared.grammar.Grammar.{Grammar}
+use Rattle.lw_link_rules.specs.Setting.{Setting}
 use Rattle.lw_reading.specs.Laws.{IsReadOneWay}
 use Rattle.lw_machine.specs.declared.published.Published.{Published}
 use Rattle.lw_machine.specs.Documents.{Document, Documents}
@@ -43,37 +43,37 @@ module _ (m clean : Documents) (are : AreCleared m clean) where
   same_lists : HaveSameLists m clean
   same_lists address = ap (option_and_then (λ (x : Document). x.published)) (are address) ∙ cleared_list (get m address)
 
-module _ (g : Grammar) (one_way : IsReadOneWay g) where
-  pub built_by_any : (m n : Documents) (lists : List Published) → IsValid g m → HaveLinksAndLists g m → HaveSameContent m n →
-      AreCurrent g n → AreNews m (entries n) lists → BuildsToEnd g m n lists
-  built_by_any m n lists valid have same current are = by (has_end g m valid have)
+module _ (setting : Setting) (one_way : IsReadOneWay setting.grammar) where
+  pub built_by_any : (m n : Documents) (lists : List Published) → IsValid setting m → HaveLinksAndLists setting m → HaveSameContent m n →
+      AreCurrent setting n → AreNews m (entries n) lists → BuildsToEnd setting m n lists
+  built_by_any m n lists valid have same current are = by (has_end setting m valid have)
     where
-      by : ((end : Documents) × (published : List Published) × BuildsToEnd g m end published) → BuildsToEnd g m n lists
+      by : ((end : Documents) × (published : List Published) × BuildsToEnd setting m end published) → BuildsToEnd setting m n lists
       by (end, published, builds) =
           let one : end ≡ n =
-          one_end g one_way end n (end_is_current g one_way m end published valid builds) current
-          (λ address. same address ∙ sym (to_end_same g m end published builds address)) in
+          one_end setting one_way end n (end_is_current setting one_way m end published valid builds) current
+          (λ address. same address ∙ sym (to_end_same setting m end published builds address)) in
           let told : published ≡ lists =
-          one_news m (entries n) published lists (subst (λ e. AreNews m (entries e) published) one (news g m end published builds)) are in
-          subst₂ (λ e p. BuildsToEnd g m e p) one told builds
+          one_news m (entries n) published lists (subst (λ e. AreNews m (entries e) published) one (news setting m end published builds)) are in
+          subst₂ (λ e p. BuildsToEnd setting m e p) one told builds
 
-  pub same_end : (m o n : Documents) (lists : List Published) → IsValid g m → IsValid g o → HaveLinksAndLists g o → HaveSameContent m o →
-      HaveSameLists m o → BuildsToEnd g m n lists → BuildsToEnd g o n lists
+  pub same_end : (m o n : Documents) (lists : List Published) → IsValid setting m → IsValid setting o → HaveLinksAndLists setting o → HaveSameContent m o →
+      HaveSameLists m o → BuildsToEnd setting m n lists → BuildsToEnd setting o n lists
   same_end m o n lists valid also have same alike builds =
-      built_by_any o n lists also have (λ address. to_end_same g m n lists builds address ∙ sym (same address))
-      (end_is_current g one_way m n lists valid builds)
-      (same_news m o alike (entries n) lists (news g m n lists builds))
+      built_by_any o n lists also have (λ address. to_end_same setting m n lists builds address ∙ sym (same address))
+      (end_is_current setting one_way m n lists valid builds)
+      (same_news m o alike (entries n) lists (news setting m n lists builds))
 
-  clean_is_valid : (m clean : Documents) → IsValid g m → AreCleared m clean → IsValid g clean
-  clean_is_valid m clean valid are = stays_valid g one_way m clean _ valid (resets are)
+  clean_is_valid : (m clean : Documents) → IsValid setting m → AreCleared m clean → IsValid setting clean
+  clean_is_valid m clean valid are = stays_valid setting one_way m clean _ valid (resets are)
 
-  pub clean_end : (m clean n : Documents) (lists : List Published) → IsValid g m → HaveLinksAndLists g clean → AreCleared m clean →
-      BuildsToEnd g m n lists → BuildsToEnd g clean n lists
+  pub clean_end : (m clean n : Documents) (lists : List Published) → IsValid setting m → HaveLinksAndLists setting clean → AreCleared m clean →
+      BuildsToEnd setting m n lists → BuildsToEnd setting clean n lists
   clean_end m clean n lists valid have are =
       same_end m clean n lists valid (clean_is_valid m clean valid are) have (same_content m clean are) (same_lists m clean are)
 
-  pub end_again : (m clean n : Documents) (lists : List Published) → IsValid g m → HaveLinksAndLists g m → AreCleared m clean →
-      BuildsToEnd g clean n lists → BuildsToEnd g m n lists
+  pub end_again : (m clean n : Documents) (lists : List Published) → IsValid setting m → HaveLinksAndLists setting m → AreCleared m clean →
+      BuildsToEnd setting clean n lists → BuildsToEnd setting m n lists
   end_again m clean n lists valid have are =
       same_end clean m n lists (clean_is_valid m clean valid are) valid have (λ address. sym (same_content m clean are address))
       (λ address. sym (same_lists m clean are address))

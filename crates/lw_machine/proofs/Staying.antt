@@ -2,7 +2,7 @@
 use Rattle.std.proofs.Common.{◌≡◌, ◌≢◌, ℕ, ℤ, List, Bool, Option, Some, None, IfSome, option_and_then, option_map, inl, inr, ◌⊎◌, refl, sym, ap, ◌∙◌, subst}
 use Rattle.std.specs.FinMap.{get, insert, remove}
 use Rattle.std.proofs.lemmas.Option.{same_Some, none-some}
-use Rattle.lw_grammar.specs.declared.grammar.Grammar.{Grammar}
+use Rattle.lw_link_rules.specs.Setting.{Setting}
 use Rattle.lw_machine.specs.declared.published.Published.{Published}
 use Rattle.lw_machine.specs.Documents.{Document, Documents, present_texts, shown_texts}
 use Rattle.lw_machine.specs.Building as building
@@ -31,14 +31,14 @@ put_text_shown text version is_open (Some d) = refl
 put_same : (m : Documents) (address : List ℕ) (e : Document) → shown_texts m address ≡ e.shown → WereThere m (insert m address e)
 put_same m address e same other = was_shown (sym (put_shown m address e same other))
 
-module _ (g : Grammar) where
-  built : (m n : Documents) (published : List Published) → Builds g m n published → WereThere m n
+module _ (setting : Setting) where
+  built : (m n : Documents) (published : List Published) → Builds setting m n published → WereThere m n
   built m n published (building.rises {address = a} {d = d} taken no_show no_list) other = put_same m a (risen d)
       (seen m a d taken.held) other
   built m n published (building.shows {address = a} {d = d} {n = o} taken is settled) other = by (one_or_two other a)
     where
       kept : shown_texts o other ≡ shown_texts (insert m a (indexed d)) other
-      kept = sym (settled_shown g (shown_texts m) a (insert m a (indexed d)) o settled other)
+      kept = sym (settled_shown setting (shown_texts m) a (insert m a (indexed d)) o settled other)
 
       by : (other ≡ a) ⊎ (other ≢ a) → WasThere m other (shown_texts o other)
       by (inl here) =
@@ -50,7 +50,7 @@ module _ (g : Grammar) where
       put_same m a (validated d list) (seen m a d taken.held) other
   built m n published (building.rests done) other = was_shown refl
 
-  were_there : (m n : Documents) (published : List Published) → Happens g m n published → WereThere m n
+  were_there : (m n : Documents) (published : List Published) → Happens setting m n published → WereThere m n
   were_there m n published (event.puts address text version is_open) other =
       put_same m address (with_text (get m address) text version is_open) (put_text_shown text version is_open (get m address)) other
   were_there m n published (event.edits address d changes version {text = text} held made) other =
@@ -59,7 +59,7 @@ module _ (g : Grammar) where
   were_there m n published (event.removes address d {n = o} held settled) other = by (one_or_two other address)
     where
       kept : shown_texts o other ≡ shown_texts (remove m address) other
-      kept = sym (settled_shown g (shown_texts m) address (remove m address) o settled other)
+      kept = sym (settled_shown setting (shown_texts m) address (remove m address) o settled other)
 
       by : (other ≡ address) ⊎ (other ≢ address) → WasThere m other (shown_texts o other)
       by (inl here) =
@@ -74,27 +74,27 @@ module _ (g : Grammar) where
       by None = refl
       by (Some d) = refl
 
-  shown_readable : (m : Documents) → HaveReadableTexts g m → (address : List ℕ) (o : Option (List ℕ)) → WasThere m address o →
-      IfSome o (IsReadable g)
+  shown_readable : (m : Documents) → HaveReadableTexts setting.grammar m → (address : List ℕ) (o : Option (List ℕ)) → WasThere m address o →
+      IfSome o (IsReadable setting.grammar)
   shown_readable m readable address None there = tt
   shown_readable m readable address (Some text) there = by there (get m address) refl
     where
-      seen_one : (p : Option (List ℕ)) → IfSome p (IsReadable g) → Some text ≡ p → IsReadable g text
+      seen_one : (p : Option (List ℕ)) → IfSome p (IsReadable setting.grammar) → Some text ≡ p → IsReadable setting.grammar text
       seen_one None each is = absurd (none-some text (sym is))
-      seen_one (Some other) each is = subst (IsReadable g) (sym (same_Some text other is)) each
+      seen_one (Some other) each is = subst (IsReadable setting.grammar) (sym (same_Some text other is)) each
 
-      by : WasThere m address (Some text) → (p : Option Document) → get m address ≡ p → IsReadable g text
+      by : WasThere m address (Some text) → (p : Option Document) → get m address ≡ p → IsReadable setting.grammar text
       by (not_shown is) p at = absurd (none-some text (sym is))
       by (was_shown is) None at = absurd (none-some text (sym (is ∙ ap (option_and_then (λ (x : Document). x.shown)) at)))
       by (was_shown is) (Some d) at = seen_one d.shown (readable address d at).1 (is ∙ ap (option_and_then (λ (x : Document). x.shown)) at)
       by (was_present is) None at = absurd (none-some text (sym (is ∙ ap (option_map (λ (x : Document). x.text)) at)))
       by (was_present is) (Some d) at =
-          subst (IsReadable g) (sym (same_Some text d.text (is ∙ ap (option_map (λ (x : Document). x.text)) at))) (readable address d at).0
+          subst (IsReadable setting.grammar) (sym (same_Some text d.text (is ∙ ap (option_map (λ (x : Document). x.text)) at))) (readable address d at).0
 
-  pub stay_readable : (m n : Documents) (published : List Published) → Happens g m n published → HaveReadableTexts g m →
-      HaveReadablePresentTexts g n → HaveReadableTexts g n
+  pub stay_readable : (m n : Documents) (published : List Published) → Happens setting m n published → HaveReadableTexts setting.grammar m →
+      HaveReadablePresentTexts setting.grammar n → HaveReadableTexts setting.grammar n
   stay_readable m n published happens readable present address d held = (
     present address d held,
-    subst (λ o. IfSome o (IsReadable g)) (seen n address d held)
+    subst (λ o. IfSome o (IsReadable setting.grammar)) (seen n address d held)
         (shown_readable m readable address (shown_texts n address) (were_there m n published happens address)),
   )

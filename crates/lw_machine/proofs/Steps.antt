@@ -1,7 +1,7 @@
 -- What a step does to how far the documents are from being shown and from being validated, and so a bound on how many steps there are.
 use Rattle.std.proofs.Common.{◌≡◌, ◌≢◌, ℕ, ◌+◌, ◌-◌, ◌*◌, ◌<◌, ◌≤◌, List, length, sum_by, Option, Some, None, inl, inr, ◌⊎◌, sym, refl, ap, ◌∙◌, subst, arith, mul-le-mul_left}
 use Rattle.std.specs.FinMap.{get, insert, keys, values, len}
-use Rattle.lw_grammar.specs.declared.grammar.Grammar.{Grammar}
+use Rattle.lw_link_rules.specs.Setting.{Setting}
 use Rattle.lw_machine.specs.declared.published.Published.{Published}
 use Rattle.lw_link_rules.specs.Links.{Texts}
 use Rattle.lw_machine.specs.declared.state.State.{State}
@@ -27,15 +27,15 @@ stays lift o = record { shown = omega arith; validated = omega arith; was_held =
 stays_equal : (lift : ℕ) (o p : Option Document) → p ≡ o → Goes lift o p
 stays_equal lift o p same = subst (λ x. Goes lift o x) (sym same) (stays lift o)
 
-module _ (g : Grammar) (before after : Texts) (address : List ℕ) where
-  lowers : (d e : Document) → Settles g before after address d e → Goes 3 (Some d) (Some e)
+module _ (setting : Setting) (before after : Texts) (address : List ℕ) where
+  lowers : (d e : Document) → Settles setting before after address d e → Goes 3 (Some d) (Some e)
   lowers d e (settling.links_differ high differ) = record { shown = omega arith; validated = omega arith; was_held = λ e is. (d, refl) }
   lowers d e (settling.list_differs is agree differ) = record { shown = omega arith; validated = omega arith; was_held = λ e is. (d, refl) }
   lowers d e (settling.list_agrees is agree also) = stays 3 (Some d)
   lowers d e (settling.links_agree high low agree) = stays 3 (Some d)
   lowers d e (settling.not_linked low) = stays 3 (Some d)
 
-  lowers_at : (o p : Option Document) → SettlesAt g before after address o p → Goes 3 o p
+  lowers_at : (o p : Option Document) → SettlesAt setting before after address o p → Goes 3 o p
   lowers_at o p settling.none = stays 3 None
   lowers_at o p (settling.held {d = d} {e = e} settles) = lowers d e settles
 
@@ -96,8 +96,8 @@ module _ (m : Documents) (address : List ℕ) (d e : Document) (held : get m add
     shows = omega (arith, ap (weigh to_show) held, ap (weigh to_show) (put_here m address e));
   }
 
-module _ (g : Grammar) (m n : Documents) (address : List ℕ) (d : Document) (is_next : IsNext m address d) where
-  shown_step : d.state ≡ Parsed → IsSettled g (shown_texts m) address (insert m address (indexed d)) n → IsStep m n address 3 1
+module _ (setting : Setting) (m n : Documents) (address : List ℕ) (d : Document) (is_next : IsNext m address d) where
+  shown_step : d.state ≡ Parsed → IsSettled setting (shown_texts m) address (insert m address (indexed d)) n → IsStep m n address 3 1
   shown_step is settled = record {
     held = (d, is_next.held);
     each = λ other. by other (one_or_two other address);
@@ -117,19 +117,19 @@ module _ (g : Grammar) (m n : Documents) (address : List ℕ) (d : Document) (is
           (one_goes m address d (indexed d) is_next.held less near 3 other)
       by other (inr apart) =
           subst (λ o. Goes 3 o (get n other)) (put_elsewhere m address (indexed d) other apart)
-          (lowers_at g (shown_texts m) (shown_texts (insert m address (indexed d))) other _ _ (settled.others other apart))
+          (lowers_at setting (shown_texts m) (shown_texts (insert m address (indexed d))) other _ _ (settled.others other apart))
 
 abbrev pub Steps : Documents → Documents → Type 0
 Steps m n = (address : List ℕ) × (IsStep m n address 0 0 ⊎ IsStep m n address 3 1)
 
-pub steps : (g : Grammar) (m n : Documents) (published : List Published) (other : List ℕ) (e : Document) → IsNext m other e → Builds g m n published → Steps m n
-steps g m n published other e is_next (rises {address = address} {d = d} taken no_show no_list) =
+pub steps : (setting : Setting) (m n : Documents) (published : List Published) (other : List ℕ) (e : Document) → IsNext m other e → Builds setting m n published → Steps m n
+steps setting m n published other e is_next (rises {address = address} {d = d} taken no_show no_list) =
     (address, inl (one_step m address d (risen d) taken.held (no_less_shown d) (nearer d.state taken.unfinished)))
-steps g m n published other e is_next (shows {address = address} {d = d} {n = o} taken is settled) =
-    (address, inr (shown_step g m o address d taken is settled))
-steps g m n published other e is_next (validates {address = address} {d = d} {list = list} taken is are publishes) =
+steps setting m n published other e is_next (shows {address = address} {d = d} {n = o} taken is settled) =
+    (address, inr (shown_step setting m o address d taken is settled))
+steps setting m n published other e is_next (validates {address = address} {d = d} {list = list} taken is are publishes) =
     (address, inl (one_step m address d (validated d list) taken.held (no_less_shown d) (nearer d.state taken.unfinished)))
-steps g m n published other e is_next (rests built) = absurd (let low = is_next.unfinished in let last = ap rank (built other e is_next.held) in omega arith)
+steps setting m n published other e is_next (rests built) = absurd (let low = is_next.unfinished in let last = ap rank (built other e is_next.held) in omega arith)
 
 -- ---- whole builds
 -- how many steps are left at most, by the addresses that are looked at
@@ -165,15 +165,15 @@ one_less addresses m n (address, inl is) all =
 one_less addresses m n (address, inr is) all =
     (loud_step m n addresses address (all address is.held.0 is.held.1) is, still_all addresses m n address 3 1 is all)
 
-module _ (g : Grammar) where
-  so_many : (addresses : List (List ℕ)) (count : ℕ) (m n : Documents) → Chain g count m n → AreAll addresses m → count + left_at addresses n ≤ left_at addresses m
+module _ (setting : Setting) where
+  so_many : (addresses : List (List ℕ)) (count : ℕ) (m n : Documents) → Chain setting count m n → AreAll addresses m → count + left_at addresses n ≤ left_at addresses m
   so_many addresses count m n none all = omega arith
   so_many addresses count m n (more {steps = others} {n = o} {address = address} {d = d} {published = published} is_next builds chain) all =
-      let less = one_less addresses m o (steps g m o published address d is_next builds) all in
+      let less = one_less addresses m o (steps setting m o published address d is_next builds) all in
       omega (arith, less.0, so_many addresses others o n chain less.1)
 
   -- a build has an end
-  pub ends : (count : ℕ) (m n : Documents) → Chain g count m n → count ≤ most_steps m
+  pub ends : (count : ℕ) (m n : Documents) → Chain setting count m n → count ≤ most_steps m
   ends count m n chain =
       let bound = so_many (keys m) count m n chain (held_among m) in
       let validated = over_keys m to_validated in

@@ -8,7 +8,7 @@ use Rattle.std.proofs.lemmas.Option.{same_Some, none-some, slice_get_within}
 use Rattle.lw_base.specs.declared.numbers.NodeId.{NodeId}
 use Rattle.lw_base.specs.declared.numbers.PropId.{PropId}
 use Rattle.lw_base.specs.declared.token.Span.{Span}
-use Rattle.lw_grammar.specs.declared.grammar.Grammar.{Grammar}
+use Rattle.lw_link_rules.specs.Setting.{Setting}
 use Rattle.lw_reading.specs.Numbers.{IsNumberOfType}
 use Rattle.lw_numbers.specs.Numbering.{type_names}
 use Rattle.lw_tree.specs.declared.node.Reference.{Reference}
@@ -19,7 +19,7 @@ use Rattle.lw_scoping.specs.Doubles.{HasDouble, IsLeastOther}
 use Rattle.lw_scoping.specs.Links.{Trees, LinksTo}
 use Rattle.lw_scoping.specs.Outward.{ContainersComeFirst}
 use Rattle.lw_scoping.specs.Symbols.{IsNamedNode, exports}
-use Rattle.lw_link_rules.specs.Links.{IsNumberBelow}
+use Rattle.lw_link_rules.specs.Links.{IsNumberBelow, rules_of}
 use Rattle.lw_link_rules.specs.TreeDiagnostics.{Diagnostic, DiagnosticPrecedes, by_start, by_code, by_end, by_message, IsDiagnosticOf, unresolved, duplicate, also_exported, number, AreDiagnosticsOf, unresolved_at, duplicate_at, also_exported_at, out_of_range}
 use Rattle.lw_machine.proofs.Finite.{Decided, Listed, here, there, nothing, here_or_there, below, is_below, as_listed, each_listed, either_listed, none_listed, one_listed}
 use Rattle.lw_machine.proofs.Comparing.{Compared, compared, before, same, after, further}
@@ -122,48 +122,48 @@ entry_there (y ∷ xs) x has = by (here_or_there y xs x has) (entry_there xs x)
 
 -- ---- what is told
 
-module _ (g : Grammar) (decide : (a b : ℕ) → Decided (IsNumberBelow g a b)) (addresses : List (List ℕ)) (trees : Trees)
+module _ (setting : Setting) (decide : (a b : ℕ) → Decided (IsNumberBelow setting.grammar a b)) (addresses : List (List ℕ)) (trees : Trees)
     (all : StandAmong addresses trees) (address : List ℕ) (tree : Parts) (first : ContainersComeFirst tree)
     (owners : All (λ r. r.owner.0 < length tree.nodes) tree.refs) where
   -- of each reference, of each symbol, of each export and of each value
   abbrev OfReference : Reference → Diagnostic → Type 0
   OfReference r e =
-      (type : List ℕ) × LinksTo (IsNumberBelow g) trees address tree r None × IsNumberOfType g type r.want.0 ×
+      (type : List ℕ) × LinksTo (rules_of setting) trees address tree r None × IsNumberOfType setting.grammar type r.want.0 ×
       (e ≡ unresolved_at r.span type r.name)
 
   abbrev OfDouble : ℕ → Diagnostic → Type 0
   OfDouble n e =
       (name : List ℕ) × (t : ℕ) × (type : List ℕ) ×
-      (named : IsNamedNode tree n name t) × HasDouble tree n name t × IsNumberOfType g type t ×
+      (named : IsNamedNode tree n name t) × HasDouble tree n name t × IsNumberOfType setting.grammar type t ×
       (e ≡ duplicate_at named.span type name)
 
   abbrev OfExport : ℕ → Diagnostic → Type 0
   OfExport n e =
       (name : List ℕ) × (t : ℕ) × (type : List ℕ) × (other : List ℕ) ×
       (named : IsNamedNode tree n name t) × IsLeastOther trees name t address other ×
-      IsNumberOfType g type t × (e ≡ also_exported_at named.span type name other)
+      IsNumberOfType setting.grammar type t × (e ≡ also_exported_at named.span type name other)
 
   abbrev OfValue : NodeId × PropId × Value → Diagnostic → Type 0
   OfValue x e = (s : Span) × (x.2 ≡ Huge s) × (e ≡ out_of_range s)
 
-  one_type_name : (t : ℕ) (a b : List ℕ) → IsNumberOfType g a t → IsNumberOfType g b t → a ≡ b
+  one_type_name : (t : ℕ) (a b : List ℕ) → IsNumberOfType setting.grammar a t → IsNumberOfType setting.grammar b t → a ≡ b
   one_type_name t a b is was = same_Some a b (sym is ∙ was)
 
   -- a type that a named node is of is that of its number
-  typed_here : (n : ℕ) (c : IsCalled tree n) (name : List ℕ) (t : ℕ) (type : List ℕ) → IsNamedNode tree n name t → IsNumberOfType g type t →
-      IsNumberOfType g type c.node.type_id.0
-  typed_here n c name t type named numbered = subst (IsNumberOfType g type) (sym (one_type tree n c name t named)) numbered
+  typed_here : (n : ℕ) (c : IsCalled tree n) (name : List ℕ) (t : ℕ) (type : List ℕ) → IsNamedNode tree n name t → IsNumberOfType setting.grammar type t →
+      IsNumberOfType setting.grammar type c.node.type_id.0
+  typed_here n c name t type named numbered = subst (IsNumberOfType setting.grammar type) (sym (one_type tree n c name t named)) numbered
 
   of_reference : (r : Reference) → Contains tree.refs r → Listed (OfReference r)
   of_reference r has =
-      by (leads_nowhere addresses trees all (IsNumberBelow g) decide address tree first r inside) (slice_get (type_names g) r.want.0) refl
+      by (leads_nowhere addresses trees all (rules_of setting) decide address tree first r inside) (slice_get (type_names setting.grammar) r.want.0) refl
     where
       inside : r.owner.0 < length tree.nodes
       inside =
           subst (λ (x : Reference). x.owner.0 < length tree.nodes) has.2
           (All-get_or (λ (x : Reference). x.owner.0 < length tree.nodes) tree.refs has.0 r has.1 owners)
 
-      by : Decided (LinksTo (IsNumberBelow g) trees address tree r None) → (o : Option (List ℕ)) → slice_get (type_names g) r.want.0 ≡ o →
+      by : Decided (LinksTo (rules_of setting) trees address tree r None) → (o : Option (List ℕ)) → slice_get (type_names setting.grammar) r.want.0 ≡ o →
           Listed (OfReference r)
       by (inl leads) (Some type) numbered =
           one_listed (OfReference r) (unresolved_at r.span type r.name) (type, leads, numbered, refl)
@@ -174,13 +174,13 @@ module _ (g : Grammar) (decide : (a b : ℕ) → Decided (IsNumberBelow g a b)) 
   of_double : (n : ℕ) → Listed (OfDouble n)
   of_double n = by (called tree n)
     where
-      only : (c : IsCalled tree n) (type : List ℕ) → IsNumberOfType g type c.node.type_id.0 → (e : Diagnostic) → OfDouble n e →
+      only : (c : IsCalled tree n) (type : List ℕ) → IsNumberOfType setting.grammar type c.node.type_id.0 → (e : Diagnostic) → OfDouble n e →
           duplicate_at c.span type c.name ≡ e
       only c type numbered e (name, t, other, named, double, numbered_too, is) =
           let one = one_type_name c.node.type_id.0 type other numbered (typed_here n c name t other named numbered_too) in
           (λ i. duplicate_at (one_span tree n c name t named i) (one i) (one_name tree n c name t named i)) ∙ sym is
 
-      untyped : (c : IsCalled tree n) → slice_get (type_names g) c.node.type_id.0 ≡ None → (e : Diagnostic) → ¬ OfDouble n e
+      untyped : (c : IsCalled tree n) → slice_get (type_names setting.grammar) c.node.type_id.0 ≡ None → (e : Diagnostic) → ¬ OfDouble n e
       untyped c absent e (name, t, type, named, double, numbered, is) =
           none-some type (sym absent ∙ typed_here n c name t type named numbered)
 
@@ -189,7 +189,7 @@ module _ (g : Grammar) (decide : (a b : ℕ) → Decided (IsNumberBelow g a b)) 
           subst₂ (HasDouble tree n) (sym (one_name tree n c name t named)) (sym (one_type tree n c name t named)) double
 
       check : (c : IsCalled tree n) → Decided (HasDouble tree n c.name c.node.type_id.0) → (o : Option (List ℕ)) →
-          slice_get (type_names g) c.node.type_id.0 ≡ o → Listed (OfDouble n)
+          slice_get (type_names setting.grammar) c.node.type_id.0 ≡ o → Listed (OfDouble n)
       check c (inl double) (Some type) numbered =
           one_listed (OfDouble n) (duplicate_at c.span type c.name)
           (c.name, c.node.type_id.0, type, so_named tree n c, double, numbered, refl) (only c type numbered)
@@ -197,7 +197,7 @@ module _ (g : Grammar) (decide : (a b : ℕ) → Decided (IsNumberBelow g a b)) 
       check c (inr not) o numbered = none_listed (OfDouble n) (λ e is. not (doubled c e is))
 
       by : IsCalled tree n ⊎ ((name : List ℕ) (type : ℕ) → ¬ IsNamedNode tree n name type) → Listed (OfDouble n)
-      by (inl c) = check c (has_double tree n c.name c.node.type_id.0) (slice_get (type_names g) c.node.type_id.0) refl
+      by (inl c) = check c (has_double tree n c.name c.node.type_id.0) (slice_get (type_names setting.grammar) c.node.type_id.0) refl
       by (inr never) = none_listed (OfDouble n) (λ e is. never is.0 is.1 is.3)
 
   -- another document exports it too, or none does
@@ -213,17 +213,17 @@ module _ (g : Grammar) (decide : (a b : ℕ) → Decided (IsNumberBelow g a b)) 
           (sym (one_type tree n c name t named)) least
 
       only : (c : IsCalled tree n) (a type : List ℕ) → IsLeastOther trees c.name c.node.type_id.0 address a →
-          IsNumberOfType g type c.node.type_id.0 → (e : Diagnostic) → OfExport n e → also_exported_at c.span type c.name a ≡ e
+          IsNumberOfType setting.grammar type c.node.type_id.0 → (e : Diagnostic) → OfExport n e → also_exported_at c.span type c.name a ≡ e
       only c a type least numbered e is =
           let one = one_type_name c.node.type_id.0 type is.2 numbered (typed_here n c is.0 is.1 is.2 is.4 is.6) in
           let other = one_least_other addresses trees all c.name c.node.type_id.0 address a is.3 least (rival c e is) in
           (λ i. also_exported_at (one_span tree n c is.0 is.1 is.4 i) (one i) (one_name tree n c is.0 is.1 is.4 i) (other i)) ∙ sym is.7
 
-      untyped : (c : IsCalled tree n) → slice_get (type_names g) c.node.type_id.0 ≡ None → (e : Diagnostic) → ¬ OfExport n e
+      untyped : (c : IsCalled tree n) → slice_get (type_names setting.grammar) c.node.type_id.0 ≡ None → (e : Diagnostic) → ¬ OfExport n e
       untyped c absent e is = none-some is.2 (sym absent ∙ typed_here n c is.0 is.1 is.2 is.4 is.6)
 
       check : (c : IsCalled tree n) → HasOther c.name c.node.type_id.0 → (o : Option (List ℕ)) →
-          slice_get (type_names g) c.node.type_id.0 ≡ o → Listed (OfExport n)
+          slice_get (type_names setting.grammar) c.node.type_id.0 ≡ o → Listed (OfExport n)
       check c (inl (a, least)) (Some type) numbered =
           one_listed (OfExport n) (also_exported_at c.span type c.name a)
           (c.name, c.node.type_id.0, type, a, so_named tree n c, least, numbered, refl) (only c a type least numbered)
@@ -232,7 +232,7 @@ module _ (g : Grammar) (decide : (a b : ℕ) → Decided (IsNumberBelow g a b)) 
 
       by : IsCalled tree n ⊎ ((name : List ℕ) (type : ℕ) → ¬ IsNamedNode tree n name type) → Listed (OfExport n)
       by (inl c) =
-          check c (least_other addresses trees all c.name c.node.type_id.0 address) (slice_get (type_names g) c.node.type_id.0) refl
+          check c (least_other addresses trees all c.name c.node.type_id.0 address) (slice_get (type_names setting.grammar) c.node.type_id.0) refl
       by (inr never) = none_listed (OfExport n) (λ e is. never is.0 is.1 is.4)
 
   of_value : (x : NodeId × PropId × Value) → Listed (OfValue x)
@@ -267,18 +267,18 @@ module _ (g : Grammar) (decide : (a b : ℕ) → Decided (IsNumberBelow g a b)) 
       ((r : Reference) × Contains tree.refs r × OfReference r e) ⊎ (((n : ℕ) × Contains (below (length tree.nodes)) n × OfDouble n e)
       ⊎ (((n : ℕ) × Contains (exports tree) n × OfExport n e) ⊎ ((x : NodeId × PropId × Value) × Contains tree.values x × OfValue x e)))
 
-  forth : (e : Diagnostic) → OfAny e → IsDiagnosticOf g trees address tree e
+  forth : (e : Diagnostic) → OfAny e → IsDiagnosticOf setting trees address tree e
   forth e (inl (r, has, (type, leads, numbered, is))) =
-      subst (IsDiagnosticOf g trees address tree) (sym is) (unresolved r has leads numbered)
+      subst (IsDiagnosticOf setting trees address tree) (sym is) (unresolved r has leads numbered)
   forth e (inr (inl (n, has, (name, t, type, named, double, numbered, is)))) =
-      subst (IsDiagnosticOf g trees address tree) (sym is) (duplicate n t named double numbered)
+      subst (IsDiagnosticOf setting trees address tree) (sym is) (duplicate n t named double numbered)
   forth e (inr (inr (inl (n, has, (name, t, type, other, named, least, numbered, is))))) =
-      subst (IsDiagnosticOf g trees address tree) (sym is) (also_exported n t has named least numbered)
+      subst (IsDiagnosticOf setting trees address tree) (sym is) (also_exported n t has named least numbered)
   forth e (inr (inr (inr (x, has, (s, huge, is))))) =
-      subst (IsDiagnosticOf g trees address tree) (sym is)
+      subst (IsDiagnosticOf setting trees address tree) (sym is)
       (number x.0.0 x.1.0 (subst (Contains (values_at x.0.0 x.1.0 tree.values)) huge (entry_there tree.values x has)))
 
-  back : (e : Diagnostic) → IsDiagnosticOf g trees address tree e → OfAny e
+  back : (e : Diagnostic) → IsDiagnosticOf setting trees address tree e → OfAny e
   back e (unresolved r {type = type} has leads numbered) = inl (r, has, (type, leads, numbered, refl))
   back e (duplicate n t {type = type} {name = name} named double numbered) =
       inr (inl (
@@ -291,9 +291,9 @@ module _ (g : Grammar) (decide : (a b : ℕ) → Decided (IsNumberBelow g a b)) 
   back e (number {s = s} node prop has) =
       let found = value_there node prop tree.values (Huge s) has in inr (inr (inr (found.0, found.1, (s, found.2, refl))))
 
-  listed : Listed (IsDiagnosticOf g trees address tree)
+  listed : Listed (IsDiagnosticOf setting trees address tree)
   listed =
-      as_listed OfAny (IsDiagnosticOf g trees address tree) forth back
+      as_listed OfAny (IsDiagnosticOf setting trees address tree) forth back
       (either_listed (λ e. (r : Reference) × Contains tree.refs r × OfReference r e) _ (each_listed OfReference tree.refs of_reference)
       (either_listed (λ e. (n : ℕ) × Contains (below (length tree.nodes)) n × OfDouble n e) _
       (each_listed OfDouble (below (length tree.nodes)) (λ n has. of_double n))
@@ -301,7 +301,7 @@ module _ (g : Grammar) (decide : (a b : ℕ) → Decided (IsNumberBelow g a b)) 
       (λ e. (x : NodeId × PropId × Value) × Contains tree.values x × OfValue x e)
       (each_listed OfExport (exports tree) (λ n has. of_export n)) (each_listed OfValue tree.values (λ x has. of_value x)))))
 
-  pub some_diagnostics : (diagnostics : List Diagnostic) × AreDiagnosticsOf g trees address tree diagnostics
+  pub some_diagnostics : (diagnostics : List Diagnostic) × AreDiagnosticsOf setting trees address tree diagnostics
   some_diagnostics =
       let told = listed in
       let sorted = in_order DiagnosticPrecedes diagnostic_further compare told.0 in (

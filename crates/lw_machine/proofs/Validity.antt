@@ -3,7 +3,7 @@
 use Rattle.std.proofs.Common.{◌≡◌, ◌≢◌, ℕ, ◌<◌, ◌≤◌, List, Option, Some, None, option_map, option_and_then, Bool, inl, inr, ◌⊎◌, ℤ, sym, refl, ap, ◌∙◌, subst, arith}
 use Rattle.std.proofs.lemmas.Option.{same_Some}
 use Rattle.std.specs.FinMap.{get, insert, remove, empty, get-empty}
-use Rattle.lw_grammar.specs.declared.grammar.Grammar.{Grammar}
+use Rattle.lw_link_rules.specs.Setting.{Setting}
 use Rattle.lw_machine.specs.declared.published.Published.{Published}
 use Rattle.lw_text.specs.declared.shown.Shown.{Shown}
 use Rattle.lw_link_rules.specs.Diagnostics.{AreDiagnostics}
@@ -42,14 +42,14 @@ module _ (P : List ℕ → Document → Type 0) where
       by (inl same) = absurd (let no = sym (taken_here m address) ∙ ap (get (remove m address)) (sym same) ∙ held in cc)
       by (inr apart) = each other f (sym (taken_elsewhere m address other apart) ∙ held)
 
-module _ (g : Grammar) (P Q : List ℕ → Document → Type 0) (before : Texts) (m n : Documents)
-    (settles : (other : List ℕ) (d e : Document) → Settles g before (shown_texts m) other d e → P other d → Q other e) where
-  settled_at : (other : List ℕ) (o p : Option Document) (f : Document) → SettlesAt g before (shown_texts m) other o p → p ≡ Some f →
+module _ (setting : Setting) (P Q : List ℕ → Document → Type 0) (before : Texts) (m n : Documents)
+    (settles : (other : List ℕ) (d e : Document) → Settles setting before (shown_texts m) other d e → P other d → Q other e) where
+  settled_at : (other : List ℕ) (o p : Option Document) (f : Document) → SettlesAt setting before (shown_texts m) other o p → p ≡ Some f →
       ((d : Document) → o ≡ Some d → P other d) → Q other f
   settled_at other o p f settling.none is each = absurd (let no = is in cc)
   settled_at other o p f (settling.held {d = d} {e = e} does) is each = subst (Q other) (same_Some e f is) (settles other d e does (each d refl))
 
-  settled_each : (address : List ℕ) → IsSettled g before address m n → ((d : Document) → get m address ≡ Some d → Q address d) → OfEach P m → OfEach Q n
+  settled_each : (address : List ℕ) → IsSettled setting before address m n → ((d : Document) → get m address ≡ Some d → Q address d) → OfEach P m → OfEach Q n
   settled_each address settled here each other f held = by (one_or_two other address)
     where
       by : (other ≡ address) ⊎ (other ≢ address) → Q other f
@@ -72,9 +72,9 @@ put_shown m address e same other = by (one_or_two other address)
     by (inr apart) = ap (option_and_then (λ (x : Document). x.shown)) (sym (put_elsewhere m address e other apart))
 
 -- none changes where documents settle
-pub settled_shown : (g : Grammar) (before : Texts) (address : List ℕ) (m n : Documents) → IsSettled g before address m n → (other : List ℕ) →
+pub settled_shown : (setting : Setting) (before : Texts) (address : List ℕ) (m n : Documents) → IsSettled setting before address m n → (other : List ℕ) →
     shown_texts m other ≡ shown_texts n other
-settled_shown g before address m n settled other = sym (settled_alike (option_and_then (λ (x : Document). x.shown)) (λ d s. refl) g before address m n settled other)
+settled_shown setting before address m n settled other = sym (settled_alike (option_and_then (λ (x : Document). x.shown)) (λ d s. refl) setting before address m n settled other)
 
 put_text_shown : (address text : List ℕ) (version : Option ℤ) (is_open : Bool) (o : Option Document) →
     option_and_then (λ (x : Document). x.shown) o ≡ (with_text o text version is_open).shown
@@ -97,18 +97,18 @@ seen_risen d Linked no_show was high = was (omega arith)
 seen_risen d IndexedReferences no_show was high = was (omega arith)
 seen_risen d Validated no_show was high = was (omega arith)
 
-module _ (g : Grammar) where
-  seen_settled : (before after : Texts) (address : List ℕ) (d e : Document) → Settles g before after address d e → IsSeen address d → IsSeen address e
+module _ (setting : Setting) where
+  seen_settled : (before after : Texts) (address : List ℕ) (d e : Document) → Settles setting before after address d e → IsSeen address d → IsSeen address e
   seen_settled before after address d e (settling.links_differ high differ) was = λ _. was (omega arith)
   seen_settled before after address d e (settling.list_differs is agree differ) was = λ _. was (let last = ap rank is in omega arith)
   seen_settled before after address d e (settling.list_agrees is agree also) was = was
   seen_settled before after address d e (settling.links_agree high low agree) was = was
   seen_settled before after address d e (settling.not_linked low) was = was
 
-  all_seen : (before : Texts) (address : List ℕ) (m n : Documents) → IsSettled g before address m n → OfEach IsSeen m → OfEach IsSeen n
-  all_seen before address m n settled each = settled_each g IsSeen IsSeen before m n (seen_settled before (shown_texts m)) address settled (each address) each
+  all_seen : (before : Texts) (address : List ℕ) (m n : Documents) → IsSettled setting before address m n → OfEach IsSeen m → OfEach IsSeen n
+  all_seen before address m n settled each = settled_each setting IsSeen IsSeen before m n (seen_settled before (shown_texts m)) address settled (each address) each
 
-  pub builds_seen : (m n : Documents) (published : List Published) → Builds g m n published → OfEach IsSeen m → OfEach IsSeen n
+  pub builds_seen : (m n : Documents) (published : List Published) → Builds setting m n published → OfEach IsSeen m → OfEach IsSeen n
   builds_seen m n published (rises {address = address} {d = d} taken no_show no_list) each =
       put_each IsSeen m address (risen d) each (seen_risen d d.state no_show (each address d taken.held))
   builds_seen m n published (shows {address = address} {d = d} {n = o} taken is settled) each =
@@ -117,7 +117,7 @@ module _ (g : Grammar) where
       put_each IsSeen m address (validated d list) each (λ _. each address d taken.held (let now = ap rank is in omega arith))
   builds_seen m n published (rests built) each = each
 
-  happens_seen : (m n : Documents) (published : List Published) → Happens g m n published → OfEach IsSeen m → OfEach IsSeen n
+  happens_seen : (m n : Documents) (published : List Published) → Happens setting m n published → OfEach IsSeen m → OfEach IsSeen n
   happens_seen m n published (puts address text version is_open) each =
       put_each IsSeen m address (with_text (get m address) text version is_open) each (by (get m address))
     where
@@ -146,17 +146,17 @@ not_last Linked no_list low is = let now = ap rank is in omega arith
 not_last IndexedReferences no_list low is = no_list refl
 not_last Validated no_list low is = omega arith
 
-module _ (g : Grammar) where
+module _ (setting : Setting) where
   -- over these shown texts
   abbrev IsToldBy : Texts → List ℕ → Document → Type 0
-  IsToldBy texts address d = d.state ≡ Validated → (list : List Shown) × (d.published ≡ Some list) × AreDiagnostics g texts address list
+  IsToldBy texts address d = d.state ≡ Validated → (list : List Shown) × (d.published ≡ Some list) × AreDiagnostics setting texts address list
 
   told_below : (texts : Texts) (address : List ℕ) (d : Document) → rank d.state < 6 → IsToldBy texts address d
   told_below texts address d low = λ is. absurd (let last = ap rank is in omega arith)
 
   told_as_before : (texts others : Texts) → ((a : List ℕ) → texts a ≡ others a) → (m : Documents) → OfEach (IsToldBy texts) m → OfEach (IsToldBy others) m
   told_as_before texts others same m each address d held is =
-      let told = each address d held is in (told.0, told.1, diagnostics_of_same_texts g texts others same address told.0 told.2)
+      let told = each address d held is in (told.0, told.1, diagnostics_of_same_texts setting texts others same address told.0 told.2)
 
   abbrev AllTold : Documents → Type 0
   AllTold m = OfEach (IsToldBy (shown_texts m)) m
@@ -167,27 +167,27 @@ module _ (g : Grammar) where
       told_as_before (shown_texts m) (shown_texts (insert m address e)) (put_shown m address e same) (insert m address e)
       (put_each (IsToldBy (shown_texts m)) m address e each here)
 
-  module _ (one_way : IsReadOneWay g) where
-    told_settled : (before after : Texts) (address : List ℕ) (d e : Document) → Settles g before after address d e → IsToldBy before address d → IsToldBy after address e
+  module _ (one_way : IsReadOneWay setting.grammar) where
+    told_settled : (before after : Texts) (address : List ℕ) (d e : Document) → Settles setting before after address d e → IsToldBy before address d → IsToldBy after address e
     told_settled before after address d e (settling.links_differ high differ) told = told_below after address e (omega arith)
     told_settled before after address d e (settling.list_differs is agree differ) told = told_below after address e (omega arith)
     told_settled before after address d e (settling.list_agrees is agree (list, was, now)) told =
         λ _.
         let kept = told is in
-        let same = one_list g one_way before address list kept.0 was kept.2 in
-        (kept.0, kept.1, subst (AreDiagnostics g after address) same now)
+        let same = one_list setting one_way before address list kept.0 was kept.2 in
+        (kept.0, kept.1, subst (AreDiagnostics setting after address) same now)
     told_settled before after address d e (settling.links_agree high low agree) told = told_below after address e low
     told_settled before after address d e (settling.not_linked low) told = told_below after address e (omega arith)
 
     -- where one that is not validated, or none, is put in place of what was held
-    all_told : (before : Texts) (address : List ℕ) (m n : Documents) → IsSettled g before address m n → ((d : Document) → get m address ≡ Some d → rank d.state < 6) →
+    all_told : (before : Texts) (address : List ℕ) (m n : Documents) → IsSettled setting before address m n → ((d : Document) → get m address ≡ Some d → rank d.state < 6) →
         OfEach (IsToldBy before) m → AllTold n
     all_told before address m n settled low each =
-        told_as_before (shown_texts m) (shown_texts n) (settled_shown g before address m n settled) n
-        (settled_each g (IsToldBy before) (IsToldBy (shown_texts m)) before m n (told_settled before (shown_texts m)) address settled
+        told_as_before (shown_texts m) (shown_texts n) (settled_shown setting before address m n settled) n
+        (settled_each setting (IsToldBy before) (IsToldBy (shown_texts m)) before m n (told_settled before (shown_texts m)) address settled
         (λ d held. told_below (shown_texts m) address d (low d held)) each)
 
-    builds_told : (m n : Documents) (published : List Published) → Builds g m n published → AllTold m → AllTold n
+    builds_told : (m n : Documents) (published : List Published) → Builds setting m n published → AllTold m → AllTold n
     builds_told m n published (rises {address = address} {d = d} taken no_show no_list) each =
         put_told m address (risen d) (seen m address d taken.held) each (λ is. absurd (not_last d.state no_list taken.unfinished is))
     builds_told m n published (shows {address = address} {d = d} {n = o} taken is settled) each =
@@ -201,7 +201,7 @@ module _ (g : Grammar) where
         put_told m address (validated d list) (seen m address d taken.held) each (λ _. (list, refl, are))
     builds_told m n published (rests built) each = each
 
-    happens_told : (m n : Documents) (published : List Published) → Happens g m n published → AllTold m → AllTold n
+    happens_told : (m n : Documents) (published : List Published) → Happens setting m n published → AllTold m → AllTold n
     happens_told m n published (puts address text version is_open) each =
         put_told m address (with_text (get m address) text version is_open) (put_text_shown address text version is_open (get m address)) each (by (get m address))
       where
@@ -222,28 +222,28 @@ module _ (g : Grammar) where
         by address f (Some d) is = subst (IsToldBy (shown_texts o) address) (same_Some (cleared d) f is) (told_below (shown_texts o) address (cleared d) (omega arith))
 
 -- ---- what the laws say
-module _ (g : Grammar) where
-  pub begins_valid : IsValid g empty
+module _ (setting : Setting) where
+  pub begins_valid : IsValid setting empty
   begins_valid = record {
     shown = λ address d held. absurd (let no = sym (get-empty order address) ∙ held in cc);
     told = λ address d held. absurd (let no = sym (get-empty order address) ∙ held in cc);
   }
 
-  pub end_is_built : (m n : Documents) (published : List Published) → BuildsToEnd g m n published → IsBuilt n
+  pub end_is_built : (m n : Documents) (published : List Published) → BuildsToEnd setting m n published → IsBuilt n
   end_is_built m n published (done built) = built
   end_is_built m n published (step {n = o} {o = end} {others = others} taken does rest) = end_is_built o end others rest
 
-  module _ (one_way : IsReadOneWay g) where
-    pub stays_valid : (m n : Documents) (published : List Published) → IsValid g m → Happens g m n published → IsValid g n
+  module _ (one_way : IsReadOneWay setting.grammar) where
+    pub stays_valid : (m n : Documents) (published : List Published) → IsValid setting m → Happens setting m n published → IsValid setting n
     stays_valid m n published valid happens =
-        record { shown = happens_seen g m n published happens valid.shown; told = happens_told g one_way m n published happens valid.told }
+        record { shown = happens_seen setting m n published happens valid.shown; told = happens_told setting one_way m n published happens valid.told }
 
-    pub end_is_valid : (m n : Documents) (published : List Published) → IsValid g m → BuildsToEnd g m n published → IsValid g n
+    pub end_is_valid : (m n : Documents) (published : List Published) → IsValid setting m → BuildsToEnd setting m n published → IsValid setting n
     end_is_valid m n published valid (done built) = valid
     end_is_valid m n published valid (step {n = o} {o = end} {first = first} {others = others} taken does rest) =
         end_is_valid o end others (stays_valid m o first valid (builds does)) rest
 
-    pub end_is_current : (m n : Documents) (published : List Published) → IsValid g m → BuildsToEnd g m n published → AreCurrent g n
+    pub end_is_current : (m n : Documents) (published : List Published) → IsValid setting m → BuildsToEnd setting m n published → AreCurrent setting n
     end_is_current m n published valid to_end address d held =
         let state = end_is_built m n published to_end address d held in
         let end = end_is_valid m n published valid to_end in

@@ -5,7 +5,7 @@ use Rattle.std.specs.Cmp.Lexicographic.{slice_cmp}
 use Rattle.std.specs.FinMap.{get, insert}
 use Rattle.std.specs.Ordering.{nat_cmp}
 use Rattle.std.specs.declared.cmp.Ordering.TheVariants.{Greater}
-use Rattle.lw_grammar.specs.declared.grammar.Grammar.{Grammar}
+use Rattle.lw_link_rules.specs.Setting.{Setting}
 use Rattle.lw_text.specs.declared.shown.Shown.{Shown}
 use Rattle.lw_machine.specs.declared.published.Published.{Published}
 use Rattle.lw_link_rules.specs.Diagnostics.{AreDiagnostics}
@@ -45,16 +45,16 @@ pub data Publishes (address : List ℕ) (d : Document) (list : List Shown) : Lis
   same : d.published ≡ Some list → Publishes address d list []
   other : d.published ≢ Some list → Publishes address d list (publication address d.version list ∷ [])
 
-module _ (g : Grammar) where
+module _ (setting : Setting) where
   -- One step: the documents before and after it, and what is published. A document that becomes indexed is shown, and the others settle; one that becomes
   -- validated has its list published.
   pub data Builds (m : Documents) : Documents → List Published → Type 0 where
     rises : {address : List ℕ} {d : Document} → IsNext m address d → d.state ≢ Parsed → d.state ≢ IndexedReferences →
         Builds m (insert m address (risen d)) []
     shows : {address : List ℕ} {d : Document} {n : Documents} → IsNext m address d → d.state ≡ Parsed →
-        IsSettled g (shown_texts m) address (insert m address (indexed d)) n → Builds m n []
+        IsSettled setting (shown_texts m) address (insert m address (indexed d)) n → Builds m n []
     validates : {address : List ℕ} {d : Document} {list : List Shown} {published : List Published} → IsNext m address d → d.state ≡ IndexedReferences →
-        AreDiagnostics g (shown_texts m) address list → Publishes address d list published → Builds m (insert m address (validated d list)) published
+        AreDiagnostics setting (shown_texts m) address list → Publishes address d list published → Builds m (insert m address (validated d list)) published
     -- where every document is validated there is nothing to do
     rests : IsBuilt m → Builds m m []
 

@@ -2,7 +2,7 @@
 -- Held against Langium's document lifecycle and the Language Server Protocol 3.17, "Text Document Synchronization".
 use Rattle.std.specs.Prelude.{ℕ, ℤ, ◌≡◌, List, [], ◌∷◌, Bool, false, Option, Some, None, option_map}
 use Rattle.std.specs.FinMap.{get, insert, remove}
-use Rattle.lw_grammar.specs.declared.grammar.Grammar.{Grammar}
+use Rattle.lw_link_rules.specs.Setting.{Setting}
 use Rattle.lw_text.specs.Changes.{AreMade}
 use Rattle.lw_text.specs.declared.change.Change.{Change}
 use Rattle.lw_text.specs.declared.shown.Shown.{Shown}
@@ -40,7 +40,7 @@ farewell address None = []
 farewell address (Some []) = []
 farewell address (Some (_ ∷ _)) = publication address None [] ∷ []
 
-module _ (g : Grammar) where
+module _ (setting : Setting) where
   -- the documents before and after an event, and what is published
   pub data Happens (m : Documents) : Documents → List Published → Type 0 where
     -- a text is put at an address, which may be new
@@ -51,9 +51,9 @@ module _ (g : Grammar) where
     -- an editor closes a document
     closes : (address : List ℕ) (d : Document) → get m address ≡ Some d → Happens m (insert m address (closed d)) []
     -- a document goes out, and the others settle
-    removes : (address : List ℕ) (d : Document) {n : Documents} → get m address ≡ Some d → IsSettled g (shown_texts m) address (remove m address) n →
+    removes : (address : List ℕ) (d : Document) {n : Documents} → get m address ≡ Some d → IsSettled setting (shown_texts m) address (remove m address) n →
         Happens m n (farewell address d.published)
     -- one step of the build
-    builds : {n : Documents} {published : List Published} → Builds g m n published → Happens m n published
+    builds : {n : Documents} {published : List Published} → Builds setting m n published → Happens m n published
     -- all that was computed is forgotten
     resets : {n : Documents} → ((address : List ℕ) → get n address ≡ option_map cleared (get m address)) → Happens m n []

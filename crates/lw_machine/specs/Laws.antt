@@ -2,7 +2,7 @@
 -- Held against Langium's document lifecycle, and the Language Server Protocol 3.17, "PublishDiagnostics Notification".
 use Rattle.std.specs.Prelude.{ℕ, ◌≡◌, ◌≢◌, ◌+◌, ◌-◌, ◌*◌, ◌⊎◌, zero, suc, List, [], ◌∷◌, Option, Some, option_and_then, sum_by, nat_lt, if◌then◌else◌}
 use Rattle.std.specs.FinMap.{get, values, len}
-use Rattle.lw_grammar.specs.declared.grammar.Grammar.{Grammar}
+use Rattle.lw_link_rules.specs.Setting.{Setting}
 use Rattle.lw_text.specs.declared.shown.Shown.{Shown}
 use Rattle.lw_machine.specs.declared.published.Published.{Published}
 use Rattle.lw_machine.specs.Documents.{Document, Documents, IsBuilt, rank}
@@ -13,11 +13,11 @@ abbrev pub GoesOn : Documents → Type 0
 GoesOn m =
     IsBuilt m ⊎ ((address : List ℕ) × (d : Document) × IsNext m address d × ((other : List ℕ) (e : Document) → IsNext m other e → (other ≡ address) × (e ≡ d)))
 
-module _ (g : Grammar) where
+module _ (setting : Setting) where
   -- so many steps, each of which takes up a document, lead from some documents to others
   pub data Chain : ℕ → Documents → Documents → Type 0 where
     none : {m : Documents} → Chain zero m m
-    more : {steps : ℕ} {m n o : Documents} {address : List ℕ} {d : Document} {published : List Published} → IsNext m address d → Builds g m n published →
+    more : {steps : ℕ} {m n o : Documents} {address : List ℕ} {d : Document} {published : List Published} → IsNext m address d → Builds setting m n published →
         Chain steps n o → Chain (suc steps) m o
 
 -- how many states a document is away from being validated

@@ -3,7 +3,7 @@
 -- Held against Langium's document lifecycle, "Modifications of a document"; which documents are lowered is exact in this profile.
 use Rattle.std.specs.Prelude.{ℕ, ◌≡◌, ◌≢◌, ◌<◌, ◌≤◌, List, Option, Some, None}
 use Rattle.std.specs.FinMap.{get}
-use Rattle.lw_grammar.specs.declared.grammar.Grammar.{Grammar}
+use Rattle.lw_link_rules.specs.Setting.{Setting}
 use Rattle.lw_link_rules.specs.Diagnostics.{AreDiagnostics}
 use Rattle.lw_link_rules.specs.Links.{Texts, AreLinks}
 use Rattle.lw_machine.specs.Documents.{Document, Documents, rank, shown_texts}
@@ -21,25 +21,25 @@ Agree {A} Before After = (a : A) × Before a × After a
 abbrev pub lowered : Document → State → Document
 lowered d state = record d { state = state }
 
-module _ (g : Grammar) (before after : Texts) where
+module _ (setting : Setting) (before after : Texts) where
   -- The document at an address, where the shown texts go from `before` to `after`. One that is linked is looked at for its links, and
   -- one that is validated with equal links for its diagnostics.
   pub data Settles (address : List ℕ) (d : Document) : Document → Type 0 where
-    links_differ : 4 ≤ rank d.state → Differ (AreLinks g before address) (AreLinks g after address) → Settles address d (lowered d ComputedScopes)
-    list_differs : d.state ≡ Validated → Agree (AreLinks g before address) (AreLinks g after address) →
-        Differ (AreDiagnostics g before address) (AreDiagnostics g after address) → Settles address d (lowered d IndexedReferences)
-    list_agrees : d.state ≡ Validated → Agree (AreLinks g before address) (AreLinks g after address) →
-        Agree (AreDiagnostics g before address) (AreDiagnostics g after address) → Settles address d d
-    links_agree : 4 ≤ rank d.state → rank d.state < 6 → Agree (AreLinks g before address) (AreLinks g after address) → Settles address d d
+    links_differ : 4 ≤ rank d.state → Differ (AreLinks setting before address) (AreLinks setting after address) → Settles address d (lowered d ComputedScopes)
+    list_differs : d.state ≡ Validated → Agree (AreLinks setting before address) (AreLinks setting after address) →
+        Differ (AreDiagnostics setting before address) (AreDiagnostics setting after address) → Settles address d (lowered d IndexedReferences)
+    list_agrees : d.state ≡ Validated → Agree (AreLinks setting before address) (AreLinks setting after address) →
+        Agree (AreDiagnostics setting before address) (AreDiagnostics setting after address) → Settles address d d
+    links_agree : 4 ≤ rank d.state → rank d.state < 6 → Agree (AreLinks setting before address) (AreLinks setting after address) → Settles address d d
     not_linked : rank d.state < 4 → Settles address d d
 
 -- what is held at an address that is not the changed one
-pub data SettlesAt (g : Grammar) (before after : Texts) (address : List ℕ) : Option Document → Option Document → Type 0 where
-  none : SettlesAt g before after address None None
-  held : {d e : Document} → Settles g before after address d e → SettlesAt g before after address (Some d) (Some e)
+pub data SettlesAt (setting : Setting) (before after : Texts) (address : List ℕ) : Option Document → Option Document → Type 0 where
+  none : SettlesAt setting before after address None None
+  held : {d e : Document} → Settles setting before after address d e → SettlesAt setting before after address (Some d) (Some e)
 
 -- The documents m after the shown text at one address has changed, where `before` are the shown texts until then: what is held at that address stays, and each other document
 -- settles.
-pub record IsSettled (g : Grammar) (before : Texts) (address : List ℕ) (m n : Documents) : Type 0 where
+pub record IsSettled (setting : Setting) (before : Texts) (address : List ℕ) (m n : Documents) : Type 0 where
   pub here : get n address ≡ get m address
-  pub others : (other : List ℕ) → other ≢ address → SettlesAt g before (shown_texts m) other (get m other) (get n other)
+  pub others : (other : List ℕ) → other ≢ address → SettlesAt setting before (shown_texts m) other (get m other) (get n other)

@@ -2,7 +2,7 @@
 -- Held against Langium's document lifecycle, "Document states", and the Language Server Protocol 3.17, "PublishDiagnostics Notification".
 use Rattle.std.specs.Prelude.{ℕ, ℤ, ◌≡◌, ◌≤◌, ◌⊎◌, List, Bool, Option, Some, option_map}
 use Rattle.std.specs.FinMap.{get}
-use Rattle.lw_grammar.specs.declared.grammar.Grammar.{Grammar}
+use Rattle.lw_link_rules.specs.Setting.{Setting}
 use Rattle.lw_text.specs.declared.shown.Shown.{Shown}
 use Rattle.lw_link_rules.specs.Diagnostics.{AreDiagnostics}
 use Rattle.lw_link_rules.specs.Links.{Texts, AreLinks}
@@ -22,16 +22,16 @@ HaveSameContent m n = (address : List ℕ) → option_map content (get n address
 abbrev pub MayBeShown : Documents → Texts → Type 0
 MayBeShown m texts = (address : List ℕ) → (texts address ≡ shown_texts m address) ⊎ (texts address ≡ present_texts m address)
 
-module _ (g : Grammar) (m : Documents) where
+module _ (setting : Setting) (m : Documents) where
   -- the list that was published last of a document is the one that the shown texts give it
   abbrev pub IsTold : List ℕ → Document → Type 0
-  IsTold address d = (list : List Shown) × (d.published ≡ Some list) × AreDiagnostics g (shown_texts m) address list
+  IsTold address d = (list : List Shown) × (d.published ≡ Some list) × AreDiagnostics setting (shown_texts m) address list
 
   -- whichever texts are shown while they are built, each document of which one is has links and a list of diagnostics
   abbrev pub HaveLinksAndLists : Type 0
   HaveLinksAndLists =
       (texts : Texts) → MayBeShown m texts → (address text : List ℕ) → texts address ≡ Some text →
-      ((links : List Link) × AreLinks g texts address links) × ((list : List Shown) × AreDiagnostics g texts address list)
+      ((links : List Link) × AreLinks setting texts address links) × ((list : List Shown) × AreDiagnostics setting texts address list)
 
   -- others see the present text of each document that is indexed, and the list of each that is validated is told
   pub record IsValid : Type 0 where

@@ -13,6 +13,7 @@ use Rattle.std.proofs.lemmas.List.Elements.{All-contains}
 use Rattle.std.proofs.lemmas.Slice.Eq.{bytes_eq-Decides}
 use Rattle.lw_docs.specs.Documents.{ByAddress, Numbered}
 use Rattle.lw_grammar.specs.declared.grammar.Grammar.{Grammar}
+use Rattle.lw_link_rules.specs.Setting.{Setting}
 use Rattle.lw_index.specs.declared.parts.Answer.{Answer}
 use Rattle.lw_index.specs.declared.parts.Answer.TheVariants.{Found, Missing}
 use Rattle.lw_machine.specs.Documents.{Document, Documents, present_texts, shown_texts}
@@ -22,7 +23,7 @@ use Rattle.lw_query.specs.Built.{AreBuiltViews, IsBuiltView, StandsAmong, texts_
 use Rattle.lw_query.specs.Viewed.{IsLinkAnswer, LeadsAs, found, missing}
 use Rattle.lw_query.specs.declared.view.View.{View}
 use Rattle.lw_link_rules.specs.Links as scope
-use Rattle.lw_link_rules.specs.Links.{AreLinks, AreTreesOfTexts, IsNumberBelow, IsTreeOfText, Texts}
+use Rattle.lw_link_rules.specs.Links.{AreLinks, AreTreesOfTexts, IsTreeOfText, Texts, rules_of}
 use Rattle.lw_scoping.specs.Links as over
 use Rattle.lw_scoping.specs.Links.{Link, LinksTo, Trees}
 use Rattle.lw_tree.specs.declared.node.Reference.{Reference}
@@ -33,23 +34,24 @@ use Rattle.lw_build.proofs.Places.{entry_held}
 use Rattle.lw_make.specs.Counting.{last_of, missing_in, nodes_seen, of_none, references_in, with_all, with_one}
 use Rattle.lw_make.specs.Summaries.{HasSizes, IsSummary, Sizes, broken, listed, unresolved_in, whole}
 use Rattle.lw_make.specs.declared.making.summary.Summary.{Summary}
+use Rattle.lw_scoping.specs.Rules.{Rules}
 
 -- ---- links and answers
 
 -- links, and as many of them lead nowhere as of the answers
-record AreLedAlike (below : ℕ → ℕ → Type 0) (trees : Trees) (address : List ℕ) (tree : Parts) (refs : List Reference) (answers : List Answer) : Type 0 where
+record AreLedAlike (rules : Rules) (trees : Trees) (address : List ℕ) (tree : Parts) (refs : List Reference) (answers : List Answer) : Type 0 where
   links : List Link
-  lead : AllZip (LinksTo below trees address tree) refs links
+  lead : AllZip (LinksTo rules trees address tree) refs links
   nowhere : unresolved_in links ≡ missing_in answers
 
-module _ (below : ℕ → ℕ → Type 0) (Stands : ℕ → List ℕ → Type 0) (trees : Trees) (address : List ℕ) (tree : Parts) where
+module _ (rules : Rules) (Stands : ℕ → List ℕ → Type 0) (trees : Trees) (address : List ℕ) (tree : Parts) where
   one_more : (answer : Answer) (link : Link) (links : List Link) (answers : List Answer) → LeadsAs Stands answer link → unresolved_in links ≡ missing_in answers →
       unresolved_in (link ∷ links) ≡ missing_in (answer ∷ answers)
   one_more answer link links answers (found stands) same = same
   one_more answer link links answers missing same = ap (λ n. n + 1) same
 
-  led_alike : (refs : List Reference) (answers : List Answer) → AllZip (IsLinkAnswer below Stands trees address tree) refs answers →
-      AreLedAlike below trees address tree refs answers
+  led_alike : (refs : List Reference) (answers : List Answer) → AllZip (IsLinkAnswer rules Stands trees address tree) refs answers →
+      AreLedAlike rules trees address tree refs answers
   led_alike [] [] all = record { links = []; lead = tt; nowhere = refl }
   led_alike [] (a ∷ answers) all = absurd all
   led_alike (r ∷ refs) [] all = absurd all
@@ -131,33 +133,33 @@ seen_among (w ∷ views) ascending v (suc i, inside, is) =
 abbrev pub sizes_of : View → Sizes
 sizes_of v = record { nodes = nodes_seen (tree_seen v); references = references_in (tree_seen v); unresolved = missing_in v.answers.now }
 
-module _ (g : Grammar) (views : List View) (are : AreBuiltViews g views) (texts : Texts) (same : (address : List ℕ) → texts_seen views address ≡ texts address) where
-  built_at : (v : View) → Contains views v → IsBuiltView g views v
-  built_at v has = All-contains (IsBuiltView g views) views v are.built has
+module _ (setting : Setting) (views : List View) (are : AreBuiltViews setting views) (texts : Texts) (same : (address : List ℕ) → texts_seen views address ≡ texts address) where
+  built_at : (v : View) → Contains views v → IsBuiltView setting views v
+  built_at v has = All-contains (IsBuiltView setting views) views v are.built has
 
-  are_trees : AreTreesOfTexts g texts (trees_seen views)
+  are_trees : AreTreesOfTexts setting.grammar texts (trees_seen views)
   are_trees address =
-      subst (λ o. IsTreeOfText g o (trees_seen views address)) (same address) (trees_of g views (λ v has. (built_at v has).reads) address)
+      subst (λ o. IsTreeOfText setting.grammar o (trees_seen views address)) (same address) (trees_of setting.grammar views (λ v has. (built_at v has).reads) address)
 
-  pub has_sizes : (v : View) → Contains views v → HasSizes g texts v.uri.now (sizes_of v)
+  pub has_sizes : (v : View) → Contains views v → HasSizes setting texts v.uri.now (sizes_of v)
   unfolding IsSeen
   has_sizes v has = by (tree_seen v) refl (built_at v has).reads
     where
       there : texts v.uri.now ≡ Some v.text.now
       there = sym (same v.uri.now) ∙ (seen_among views are.ascending v has).0
 
-      by : (o : Option Parts) → tree_seen v ≡ o → IsTreeOfText g (Some v.text.now) o →
-          HasSizes g texts v.uri.now (record { nodes = nodes_seen o; references = references_in o; unresolved = missing_in v.answers.now })
+      by : (o : Option Parts) → tree_seen v ≡ o → IsTreeOfText setting.grammar (Some v.text.now) o →
+          HasSizes setting texts v.uri.now (record { nodes = nodes_seen o; references = references_in o; unresolved = missing_in v.answers.now })
       by (Some tree) is (scope.whole reads) =
-          let led = led_alike (IsNumberBelow g) (StandsAmong views) (trees_seen views) v.uri.now tree tree.refs v.answers.now ((built_at v has).linked tree is) in
-          subst (λ n. HasSizes g texts v.uri.now (record { nodes = length tree.nodes; references = length tree.refs; unresolved = n })) led.nowhere
+          let led = led_alike (rules_of setting) (StandsAmong views) (trees_seen views) v.uri.now tree tree.refs v.answers.now ((built_at v has).linked tree is) in
+          subst (λ n. HasSizes setting texts v.uri.now (record { nodes = length tree.nodes; references = length tree.refs; unresolved = n })) led.nowhere
           (whole there reads (record {
             trees = trees_seen views;
             are_trees = are_trees;
             are_links = over.whole ((seen_among views are.ascending v has).1 ∙ is) led.lead;
           }))
       by None is (scope.broken reads) =
-          subst (λ answers. HasSizes g texts v.uri.now (record { nodes = 0; references = 0; unresolved = missing_in answers })) (sym ((built_at v has).treeless is))
+          subst (λ answers. HasSizes setting texts v.uri.now (record { nodes = 0; references = 0; unresolved = missing_in answers })) (sym ((built_at v has).treeless is))
           (broken there reads)
 
 -- ---- sums
@@ -246,7 +248,7 @@ last_sum kept (e ∷ es) (v ∷ views) same held =
     ∙ ap₂ (λ x y. x + y) here (last_sum kept es views parts.1 (λ d among. held d (later among)))
     ∙ sym (sum-cons (listed e.1.doc.published) (map (λ (d : List ℕ × Document). listed d.1.published) (map entry_of es)))
 
-module _ (g : Grammar) (kept : ByAddress) (views : List View) (are : AreBuiltViews g views)
+module _ (setting : Setting) (kept : ByAddress) (views : List View) (are : AreBuiltViews setting views)
     (same : (address : List ℕ) → texts_seen views address ≡ present_texts (documents_of true kept) address)
     (addresses : map (λ (v : View). v.uri.now) views ≡ keys kept) where
   abbrev all : Documents
@@ -257,11 +259,11 @@ module _ (g : Grammar) (kept : ByAddress) (views : List View) (are : AreBuiltVie
       sym (length-map views (λ (v : View). v.uri.now)) ∙ ap length addresses ∙ length-map (entries kept) (λ (e : Entry). e.0)
       ∙ sym (length-map (entries kept) entry_of) ∙ sym (ap length (entries_documents true kept)) ∙ sym (len-entries all)
 
-  sizes_here : AllZip (λ (e : List ℕ × Document). HasSizes g (shown_texts all) e.0) (entries all) (map sizes_of views)
+  sizes_here : AllZip (λ (e : List ℕ × Document). HasSizes setting (shown_texts all) e.0) (entries all) (map sizes_of views)
   sizes_here =
-      subst (λ es. AllZip (λ (e : List ℕ × Document). HasSizes g (shown_texts all) e.0) es (map sizes_of views)) (sym (entries_documents true kept))
-      (zipped (HasSizes g (shown_texts all)) (entries kept) views addresses
-      (has_sizes g views are (shown_texts all) (λ address. same address ∙ shown_here kept address)))
+      subst (λ es. AllZip (λ (e : List ℕ × Document). HasSizes setting (shown_texts all) e.0) es (map sizes_of views)) (sym (entries_documents true kept))
+      (zipped (HasSizes setting (shown_texts all)) (entries kept) views addresses
+      (has_sizes setting views are (shown_texts all) (λ address. same address ∙ shown_here kept address)))
 
   lasts_here : sum (map (last_count kept) views) ≡ sum (map (λ (e : List ℕ × Document). listed e.1.published) (entries all))
   lasts_here =
@@ -269,7 +271,7 @@ module _ (g : Grammar) (kept : ByAddress) (views : List View) (are : AreBuiltVie
       ∙ ap (λ es. sum (map (λ (e : List ℕ × Document). listed e.1.published) es)) (sym (entries_documents true kept))
 
   -- the sum of them is the summary
-  pub is_summary : (published : ℕ) (lists : List Published) → length lists ≡ published → IsSummary g all lists (with_all kept (of_none published) views)
+  pub is_summary : (published : ℕ) (lists : List Published) → length lists ≡ published → IsSummary setting all lists (with_all kept (of_none published) views)
   is_summary published lists how = record {
     sizes = map sizes_of views;
     have = sizes_here;
@@ -284,10 +286,10 @@ module _ (g : Grammar) (kept : ByAddress) (views : List View) (are : AreBuiltVie
       start : Summary
       start = of_none published
 
-pub summary_here : (v : WorkspaceView) → v.is_built ≡ true → (views : List View) → AreBuiltViews v.grammar views →
+pub summary_here : (v : WorkspaceView) → v.is_built ≡ true → (views : List View) → AreBuiltViews v.setting views →
     ((address : List ℕ) → texts_seen views address ≡ present_texts (documents v) address) → map (λ (w : View). w.uri.now) views ≡ keys v.kept →
-    (published : ℕ) (lists : List Published) → length lists ≡ published → IsSummary v.grammar (documents v) lists (with_all v.kept (of_none published) views)
+    (published : ℕ) (lists : List Published) → length lists ≡ published → IsSummary v.setting (documents v) lists (with_all v.kept (of_none published) views)
 summary_here v built views are same addresses published lists how =
     subst (λ b. ((address : List ℕ) → texts_seen views address ≡ present_texts (documents_of b v.kept) address) →
-    IsSummary v.grammar (documents_of b v.kept) lists (with_all v.kept (of_none published) views)) (sym built)
-    (λ seen. is_summary v.grammar v.kept views are seen addresses published lists how) same
+    IsSummary v.setting (documents_of b v.kept) lists (with_all v.kept (of_none published) views)) (sym built)
+    (λ seen. is_summary v.setting v.kept views are seen addresses published lists how) same

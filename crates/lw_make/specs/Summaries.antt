@@ -3,7 +3,7 @@
 use Rattle.std.specs.Prelude.{ℕ, ◌≡◌, ◌+◌, List, [], ◌∷◌, ◌++◌, Option, Some, None, codes, decimal, length, map}
 use Rattle.std.specs.FinMap.{entries, len}
 use Rattle.std.specs.List.{AllZip, sum}
-use Rattle.lw_grammar.specs.declared.grammar.Grammar.{Grammar}
+use Rattle.lw_link_rules.specs.Setting.{Setting}
 use Rattle.lw_machine.specs.Documents.{Document, Documents, shown_texts}
 use Rattle.lw_machine.specs.declared.published.Published.{Published}
 use Rattle.lw_reading.specs.Reading.{Reads}
@@ -28,11 +28,11 @@ unresolved_in (None ∷ links) = unresolved_in links + 1
 unresolved_in (Some _ ∷ links) = unresolved_in links
 
 -- the document at an address has a tree that holds so much, or it is broken and has none
-pub data HasSizes (g : Grammar) (texts : Texts) (address : List ℕ) : Sizes → Type 0 where
-  whole : {text : List ℕ} {tree : Parts} {links : List Link} → texts address ≡ Some text → Reads g text (Whole tree) → AreLinks g texts address links →
-      HasSizes g texts address (record { nodes = length tree.nodes; references = length tree.refs; unresolved = unresolved_in links })
-  broken : {text : List ℕ} {issue : Issue} → texts address ≡ Some text → Reads g text (Broken issue) →
-      HasSizes g texts address (record { nodes = 0; references = 0; unresolved = 0 })
+pub data HasSizes (setting : Setting) (texts : Texts) (address : List ℕ) : Sizes → Type 0 where
+  whole : {text : List ℕ} {tree : Parts} {links : List Link} → texts address ≡ Some text → Reads setting.grammar text (Whole tree) → AreLinks setting texts address links →
+      HasSizes setting texts address (record { nodes = length tree.nodes; references = length tree.refs; unresolved = unresolved_in links })
+  broken : {text : List ℕ} {issue : Issue} → texts address ≡ Some text → Reads setting.grammar text (Broken issue) →
+      HasSizes setting texts address (record { nodes = 0; references = 0; unresolved = 0 })
 
 -- how many diagnostics the list that was published last has
 abbrev pub listed : Option (List Shown) → ℕ
@@ -40,9 +40,9 @@ listed None = 0
 listed (Some list) = length list
 
 -- the summary of these documents, where these lists were published in all
-pub record IsSummary (g : Grammar) (m : Documents) (lists : List Published) (summary : Summary) : Type 0 where
+pub record IsSummary (setting : Setting) (m : Documents) (lists : List Published) (summary : Summary) : Type 0 where
   pub sizes : List Sizes
-  pub have : AllZip (λ (entry : List ℕ × Document). HasSizes g (shown_texts m) entry.0) (entries m) sizes
+  pub have : AllZip (λ (entry : List ℕ × Document). HasSizes setting (shown_texts m) entry.0) (entries m) sizes
   pub documents : summary.documents ≡ len m
   pub nodes : summary.nodes ≡ sum (map (λ s. s.nodes) sizes)
   pub references : summary.references ≡ sum (map (λ s. s.references) sizes)

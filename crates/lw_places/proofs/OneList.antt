@@ -8,11 +8,11 @@ use Rattle.std.proofs.lemmas.Cmp.{nat_list_cmp_total}
 use Rattle.std.proofs.lemmas.Option.{same_Some}
 use Rattle.lw_base.specs.declared.token.Token.{Token}
 use Rattle.lw_base.proofs.Sorted.{same_list}
-use Rattle.lw_grammar.specs.declared.grammar.Grammar.{Grammar}
+use Rattle.lw_link_rules.specs.Setting.{Setting}
 use Rattle.lw_grammar.specs.Kinds.{Kinds}
 use Rattle.lw_grammar.proofs.KindLemmas.{one_kinds}
 use Rattle.lw_reading.specs.Laws.{IsReadOneWay}
-use Rattle.lw_link_rules.specs.Links.{IsNumberBelow, Texts}
+use Rattle.lw_link_rules.specs.Links.{IsNumberBelow, Texts, rules_of}
 use Rattle.lw_link_rules.proofs.SameTables.{link_over}
 use Rattle.lw_link_rules.proofs.SameTexts.{same_tables}
 use Rattle.lw_scoping.specs.Alike.{AreAlike, HaveSameTables, both, neither}
@@ -28,6 +28,7 @@ use Rattle.lw_places.specs.Starting.{IsFindable, ReferenceNext}
 use Rattle.lw_places.specs.Starting as start
 use Rattle.lw_places.specs.Targets.{AreVisible, HasTarget, having_tree, renamed_to}
 use Rattle.lw_places.specs.Words.{BeginsBy}
+use Rattle.lw_scoping.specs.Rules.{Rules}
 
 names_strict : (a b : List ℕ) → slice_cmp nat_cmp a b ≡ Less → slice_cmp nat_cmp b a ≡ Less → ⊥
 names_strict a b one other = by (sym one ∙ nat_list_cmp_total.antisymm a b ∙ ap ordering_reverse other)
@@ -77,28 +78,28 @@ fits_over all below r place (tree, is, has, (type, named, under)) =
     let (other, there, same) = alike_in (all place.0) is in
     (other, there, subst (λ (xs : List ℕ). Contains xs place.1) (same_exports same) has, (type, same_named same named, under))
 
-target_too : (g : Grammar) {trees others : Trees} (address : List ℕ) (tree : Parts) (r : Reference) → HaveSameTables trees others →
-    HasTarget (IsNumberBelow g) trees address tree r → HasTarget (IsNumberBelow g) others address tree r
-target_too g address tree r all (target, leads) =
+target_too : (setting : Setting) {trees others : Trees} (address : List ℕ) (tree : Parts) (r : Reference) → HaveSameTables trees others →
+    HasTarget (rules_of setting) trees address tree r → HasTarget (rules_of setting) others address tree r
+target_too setting address tree r all (target, leads) =
     let alike = having_alike address tree all in (
       target,
-      link_over (IsNumberBelow g) _ _ address tree tree r (λ n own. own) (fits_over alike (IsNumberBelow g) r)
-          (fits_over (λ a. alike_back (alike a)) (IsNumberBelow g) r) (Some target) leads,
+      link_over (rules_of setting) _ _ address tree tree r (λ n own. own) (fits_over alike (IsNumberBelow setting.grammar) r)
+          (fits_over (λ a. alike_back (alike a)) (IsNumberBelow setting.grammar) r) (Some target) leads,
     )
 
-module _ (g : Grammar) (of : Kinds) (lexicon : Lexicon) {trees others : Trees} (address front rest : List ℕ) (tokens : List Token) (all : HaveSameTables trees others) where
-  findable_too : (next : ReferenceNext) (name : List ℕ) → IsFindable g of lexicon trees address front rest tokens next name →
-      IsFindable g of lexicon others address front rest tokens next name
-  findable_too next name (start.in_front {tree} {r} is target) = start.in_front is (target_too g address tree (renamed_to name r) all target)
-  findable_too next name (start.in_whole {tree} {r} front_is is target) = start.in_whole front_is is (target_too g address tree (renamed_to name r) all target)
+module _ (setting : Setting) (of : Kinds) (lexicon : Lexicon) {trees others : Trees} (address front rest : List ℕ) (tokens : List Token) (all : HaveSameTables trees others) where
+  findable_too : (next : ReferenceNext) (name : List ℕ) → IsFindable setting of lexicon trees address front rest tokens next name →
+      IsFindable setting of lexicon others address front rest tokens next name
+  findable_too next name (start.in_front {tree} {r} is target) = start.in_front is (target_too setting address tree (renamed_to name r) all target)
+  findable_too next name (start.in_whole {tree} {r} front_is is target) = start.in_whole front_is is (target_too setting address tree (renamed_to name r) all target)
 
-  leads_too : (next : ReferenceNext) (name : List ℕ) → LeadsSomewhere g of lexicon trees address front rest tokens next name →
-      LeadsSomewhere g of lexicon others address front rest tokens next name
-  leads_too next name (offer.in_whole {tree} {r} has target) = offer.in_whole has (target_too g address tree r all target)
-  leads_too next name (offer.in_front {tree} {r} none is target) = offer.in_front none is (target_too g address tree (renamed_to name r) all target)
+  leads_too : (next : ReferenceNext) (name : List ℕ) → LeadsSomewhere setting of lexicon trees address front rest tokens next name →
+      LeadsSomewhere setting of lexicon others address front rest tokens next name
+  leads_too next name (offer.in_whole {tree} {r} has target) = offer.in_whole has (target_too setting address tree r all target)
+  leads_too next name (offer.in_front {tree} {r} none is target) = offer.in_front none is (target_too setting address tree (renamed_to name r) all target)
 
-  offered_too : (word : List ℕ) (x : Offer) → IsOffered g of lexicon trees address front rest tokens word x →
-      IsOffered g of lexicon others address front rest tokens word x
+  offered_too : (word : List ℕ) (x : Offer) → IsOffered setting of lexicon trees address front rest tokens word x →
+      IsOffered setting of lexicon others address front rest tokens word x
   offered_too word x (offer.keyword begins is) = offer.keyword begins is
   offered_too word x (offer.name {n} begins is) =
       offer.name begins (record {
@@ -111,11 +112,11 @@ module _ (g : Grammar) (of : Kinds) (lexicon : Lexicon) {trees others : Trees} (
 
 -- ---- one list
 
-module _ (g : Grammar) (one_way : IsReadOneWay g) (texts : Texts) (address text : List ℕ) (offset : ℕ) where
+module _ (setting : Setting) (one_way : IsReadOneWay setting.grammar) (texts : Texts) (address text : List ℕ) (offset : ℕ) where
   offer_too : {of kinds : Kinds} {one other : Lexicon} {trees others : Trees} → of ≡ kinds → one ≡ other → HaveSameTables trees others → (x : Offer) →
-      IsOffer g of one trees address text offset x → IsOffer g kinds other others address text offset x
+      IsOffer setting of one trees address text offset x → IsOffer setting kinds other others address text offset x
   offer_too {kinds} {other} {others} same_kinds same_lexicon all x is =
-      subst₂ (λ kinds lexicon. IsOffer g kinds lexicon others address text offset x) same_kinds same_lexicon
+      subst₂ (λ kinds lexicon. IsOffer setting kinds lexicon others address text offset x) same_kinds same_lexicon
       (record {
         short = is.short;
         front = is.front;
@@ -124,37 +125,37 @@ module _ (g : Grammar) (one_way : IsReadOneWay g) (texts : Texts) (address text 
         typed = is.typed;
         tokens = is.tokens;
         cut = is.cut;
-        offered = offered_too g _ _ address is.front is.rest is.tokens all is.word x is.offered;
+        offered = offered_too setting _ _ address is.front is.rest is.tokens all is.word x is.offered;
       })
 
-  held_too : (offers others : List Offer) → AreOffers g texts address text offset offers → AreOffers g texts address text offset others → (x : Offer) →
+  held_too : (offers others : List Offer) → AreOffers setting texts address text offset offers → AreOffers setting texts address text offset others → (x : Offer) →
       Contains offers x → Contains others x
   held_too offers others are were x has =
-      let same_kinds : are.of ≡ were.of = one_kinds g are.of were.of are.are_kinds were.are_kinds in
+      let same_kinds : are.of ≡ were.of = one_kinds setting.grammar are.of were.of are.are_kinds were.are_kinds in
       let same_lexicon : are.lexicon ≡ were.lexicon =
-      one_lexicon g were.of are.lexicon were.lexicon (subst (λ of. IsLexicon g of are.lexicon) same_kinds are.is_lexicon) were.is_lexicon in
-      (were.exact x).1 (offer_too same_kinds same_lexicon (same_tables g one_way texts are.trees were.trees are.are_trees were.are_trees) x ((are.exact x).0 has))
+      one_lexicon setting.grammar were.of are.lexicon were.lexicon (subst (λ of. IsLexicon setting.grammar of are.lexicon) same_kinds are.is_lexicon) were.is_lexicon in
+      (were.exact x).1 (offer_too same_kinds same_lexicon (same_tables setting.grammar one_way texts are.trees were.trees are.are_trees were.are_trees) x ((are.exact x).0 has))
 
-  pub one_list_of_offers : (offers others : List Offer) → AreOffers g texts address text offset offers → AreOffers g texts address text offset others →
+  pub one_list_of_offers : (offers others : List Offer) → AreOffers setting texts address text offset offers → AreOffers setting texts address text offset others →
       offers ≡ others
   one_list_of_offers offers others are were =
       same_list OfferPrecedes offers_strict offers others are.ordered were.ordered (held_too offers others are were) (held_too others offers were are)
 
-pub one_list_of_names : (below : ℕ → ℕ → Type 0) (trees : Trees) (address : List ℕ) (tree : Parts) (r : Reference) (names others : List (List ℕ)) →
-    AreVisible below trees address tree r names → AreVisible below trees address tree r others → names ≡ others
-one_list_of_names below trees address tree r names others are were =
+pub one_list_of_names : (rules : Rules) (trees : Trees) (address : List ℕ) (tree : Parts) (r : Reference) (names others : List (List ℕ)) →
+    AreVisible rules trees address tree r names → AreVisible rules trees address tree r others → names ≡ others
+one_list_of_names rules trees address tree r names others are were =
     same_list (λ one other. slice_cmp nat_cmp one other ≡ Less) names_strict names others are.ordered were.ordered (λ x has. (were.exact x).1 ((are.exact x).0 has))
     (λ x has. (are.exact x).1 ((were.exact x).0 has))
 
-pub goes_on : (g : Grammar) (texts : Texts) (address text : List ℕ) (offset : ℕ) (offers : List Offer) (x : Offer) →
-    AreOffers g texts address text offset offers → Contains offers x →
+pub goes_on : (setting : Setting) (texts : Texts) (address text : List ℕ) (offset : ℕ) (offers : List Offer) (x : Offer) →
+    AreOffers setting texts address text offset offers → Contains offers x →
     (front : List ℕ) × (word : List ℕ) × (take offset text ≡ front ++ word) × BeginsBy word x.label × ((x.kind ≡ 14) ⊎ (x.kind ≡ 18))
-goes_on g texts address text offset offers x are has = let (begins, kind) = told x is.offered in (is.front, is.word, is.typed.before, begins, kind)
+goes_on setting texts address text offset offers x are has = let (begins, kind) = told x is.offered in (is.front, is.word, is.typed.before, begins, kind)
   where
-    is : IsOffer g are.of are.lexicon are.trees address text offset x
+    is : IsOffer setting are.of are.lexicon are.trees address text offset x
     is = (are.exact x).0 has
 
-    told : (x : Offer) → IsOffered g are.of are.lexicon are.trees address is.front is.rest is.tokens is.word x →
+    told : (x : Offer) → IsOffered setting are.of are.lexicon are.trees address is.front is.rest is.tokens is.word x →
         BeginsBy is.word x.label × ((x.kind ≡ 14) ⊎ (x.kind ≡ 18))
     told x (offer.keyword begins _) = (begins, inl refl)
     told x (offer.name begins _) = (begins, inr refl)

@@ -3,7 +3,7 @@ use Rattle.std.proofs.Common.{◌≡◌, ℕ, List, Result, Ok, Err, Contains, r
 use Rattle.std.specs.Cmp.Lexicographic.{slice_cmp}
 use Rattle.std.specs.Ordering.{nat_cmp}
 use Rattle.std.specs.declared.cmp.Ordering.TheVariants.{Less}
-use Rattle.lw_grammar.specs.declared.grammar.Grammar.{Grammar}
+use Rattle.lw_link_rules.specs.Setting.{Setting}
 use Rattle.lw_places.specs.Mentions.{Mention}
 use Rattle.lw_reading.specs.Laws.{IsReadOneWay}
 use Rattle.lw_link_rules.specs.Links.{AreLinks, Texts}
@@ -29,43 +29,43 @@ use Rattle.lw_places.proofs.Mentioned.{not_nothing, one_list_of_mentions}
 use Rattle.lw_places.proofs.OneRebound.{not_rebound, one_rebound}
 use Rattle.lw_places.proofs.Texts.{kept_or_spoiled, one_spoil}
 
-module _ (g : Grammar) (one_way : IsReadOneWay g) (texts : Texts) (address : List ℕ) (offset : ℕ) (new : List ℕ) where
+module _ (setting : Setting) (one_way : IsReadOneWay setting.grammar) (texts : Texts) (address : List ℕ) (offset : ℕ) (new : List ℕ) where
   abbrev after : List Mention → Texts
   after mentions = renamed_texts new mentions texts
 
-  same_mentions : (mentions others : List Mention) → AreRenamed g texts address offset mentions → AreRenamed g texts address offset others →
+  same_mentions : (mentions others : List Mention) → AreRenamed setting texts address offset mentions → AreRenamed setting texts address offset others →
       mentions ≡ others
-  same_mentions = one_list_of_mentions g texts address offset one_way
+  same_mentions = one_list_of_mentions setting texts address offset one_way
 
-  not_both : {A : Type 0} (mentions : List Mention) → NothingIsMeant g texts address offset → AreRenamed g texts address offset mentions → A
-  not_both mentions none are = not_nothing g texts address offset one_way mentions none are
+  not_both : {A : Type 0} (mentions : List Mention) → NothingIsMeant setting texts address offset → AreRenamed setting texts address offset mentions → A
+  not_both mentions none are = not_nothing setting texts address offset one_way mentions none are
 
   abbrev AllKept : List Mention → Type 0
-  AllKept mentions = (m : Mention) → Contains mentions m → IsKeptAt g texts (after mentions) m.address
+  AllKept mentions = (m : Mention) → Contains mentions m → IsKeptAt setting texts (after mentions) m.address
 
   -- the first document that is spoiled, by one of the mentions there
   record FirstSpoiled (mentions : List Mention) (refusal : Refusal) : Type 0 where
     m : Mention
     has : Contains mentions m
-    spoiled : IsSpoiledAt g texts (after mentions) m.address refusal
+    spoiled : IsSpoiledAt setting texts (after mentions) m.address refusal
     kept_before : (other : Mention) → Contains mentions other → slice_cmp nat_cmp other.address m.address ≡ Less →
-        IsKeptAt g texts (after mentions) other.address
+        IsKeptAt setting texts (after mentions) other.address
 
   one_refusal : (mentions : List Mention) (a b : Refusal) → FirstSpoiled mentions a → FirstSpoiled mentions b → a ≡ b
   one_refusal mentions a b is other = elim (stands is.m.address other.m.address) [
-    | before less ↦ kept_or_spoiled g one_way texts (after mentions) is.m.address (other.kept_before is.m is.has less) is.spoiled
+    | before less ↦ kept_or_spoiled setting one_way texts (after mentions) is.m.address (other.kept_before is.m is.has less) is.spoiled
     | there same ↦
-        one_spoil g one_way texts (after mentions) other.m.address (subst (λ (c : List ℕ). IsSpoiledAt g texts (after mentions) c a) same is.spoiled)
+        one_spoil setting one_way texts (after mentions) other.m.address (subst (λ (c : List ℕ). IsSpoiledAt setting texts (after mentions) c a) same is.spoiled)
         other.spoiled
-    | behind less ↦ kept_or_spoiled g one_way texts (after mentions) other.m.address (is.kept_before other.m other.has less) other.spoiled
+    | behind less ↦ kept_or_spoiled setting one_way texts (after mentions) other.m.address (is.kept_before other.m other.has less) other.spoiled
   ]
 
   not_kept : {A : Type 0} (mentions others : List Mention) (refusal : Refusal) → mentions ≡ others → FirstSpoiled mentions refusal → AllKept others → A
   not_kept mentions others refusal same is all =
-      kept_or_spoiled g one_way texts (after mentions) is.m.address (subst (λ (x : List Mention). AllKept x) (sym same) all is.m is.has) is.spoiled
+      kept_or_spoiled setting one_way texts (after mentions) is.m.address (subst (λ (x : List Mention). AllKept x) (sym same) all is.m is.has) is.spoiled
 
-  pub one_outcome : (outcome other : Result (List Mention) Refusal) → IsRenamed g texts address offset new outcome →
-      IsRenamed g texts address offset new other → outcome ≡ other
+  pub one_outcome : (outcome other : Result (List Mention) Refusal) → IsRenamed setting texts address offset new outcome →
+      IsRenamed setting texts address offset new other → outcome ≡ other
   one_outcome outcome other (no_name _) (no_name _) = refl
   one_outcome outcome other (no_name none) (refused {mentions = ns} were _ _ _) = not_both ns none were
   one_outcome outcome other (no_name none) (rebound {mentions = ns} were _ _) = not_both ns none were
@@ -89,24 +89,24 @@ module _ (g : Grammar) (one_way : IsReadOneWay g) (texts : Texts) (address : Lis
   one_outcome outcome other (rebound {mentions = ms} {a = a} {i = i} {before = x} {behind = y} are _ is)
       (rebound {mentions = ns} {a = b} {i = j} {before = z} {behind = w} were _ was) =
       let same : ms ≡ ns = same_mentions ms ns are were in
-      let one : IsRebound g texts (after ns) a i x y = subst (λ (seen : List Mention). IsRebound g texts (after seen) a i x y) same is in
-      ap Err (one_rebound g one_way texts (after ns) a b i j x y z w one was)
+      let one : IsRebound setting texts (after ns) a i x y = subst (λ (seen : List Mention). IsRebound setting texts (after seen) a i x y) same is in
+      ap Err (one_rebound setting one_way texts (after ns) a b i j x y z w one was)
   one_outcome outcome other (rebound {mentions = ms} {a = a} {i = i} {before = x} {behind = y} are _ is) (renamed {mentions = ns} were _ stay) =
       let same : ms ≡ ns = same_mentions ms ns are were in
-      let one : IsRebound g texts (after ns) a i x y = subst (λ (seen : List Mention). IsRebound g texts (after seen) a i x y) same is in
-      not_rebound g one_way texts (after ns) a i x y one (stay a)
+      let one : IsRebound setting texts (after ns) a i x y = subst (λ (seen : List Mention). IsRebound setting texts (after seen) a i x y) same is in
+      not_rebound setting one_way texts (after ns) a i x y one (stay a)
   one_outcome outcome other (renamed {mentions = ms} are _ stay) (rebound {mentions = ns} {a = b} {i = j} {before = z} {behind = w} were _ was) =
       let same : ns ≡ ms = same_mentions ns ms were are in
-      let one : IsRebound g texts (after ms) b j z w = subst (λ (seen : List Mention). IsRebound g texts (after seen) b j z w) same was in
-      not_rebound g one_way texts (after ms) b j z w one (stay b)
+      let one : IsRebound setting texts (after ms) b j z w = subst (λ (seen : List Mention). IsRebound setting texts (after seen) b j z w) same was in
+      not_rebound setting one_way texts (after ms) b j z w one (stay b)
   one_outcome outcome other (renamed {mentions = ms} are _ _) (renamed {mentions = ns} were _ _) =
       ap Ok (same_mentions ms ns are were)
 
-  pub links_stay : (mentions : List Mention) → IsRenamed g texts address offset new (Ok mentions) → (a : List ℕ) → LinksStay g texts (after mentions) a
+  pub links_stay : (mentions : List Mention) → IsRenamed setting texts address offset new (Ok mentions) → (a : List ℕ) → LinksStay setting texts (after mentions) a
   links_stay mentions (renamed _ _ stay) a = stay a
 
-  pub nothing_rebound : (mentions : List Mention) → IsRenamed g texts address offset new (Ok mentions) → (a : List ℕ) (links : List Link) →
-      AreLinks g texts a links → AreLinks g (after mentions) a links
+  pub nothing_rebound : (mentions : List Mention) → IsRenamed setting texts address offset new (Ok mentions) → (a : List ℕ) (links : List Link) →
+      AreLinks setting texts a links → AreLinks setting (after mentions) a links
   nothing_rebound mentions is a links are =
       let (kept, were, stay) = links_stay mentions is a in
-      subst (λ (x : List Link). AreLinks g (after mentions) a x) (one_list_of_links g one_way texts a kept links were are) stay
+      subst (λ (x : List Link). AreLinks setting (after mentions) a x) (one_list_of_links setting one_way texts a kept links were are) stay

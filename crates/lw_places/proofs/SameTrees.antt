@@ -32,6 +32,7 @@ use Rattle.lw_places.specs.Mentions.{
 }
 use Rattle.lw_places.specs.Places.{IsFirstPlace, IsPlaceAt, NoPlace, TakesUp, name, reference, inside, at_end, nothing}
 use Rattle.lw_places.specs.declared.place.Place.{Place}
+use Rattle.lw_scoping.specs.Rules.{Rules}
 
 -- ---- in one tree
 
@@ -73,27 +74,27 @@ absent_too (both same) is = absurd (differ is)
     differ e = cc
 absent_too neither is = refl
 
-module _ (below : ℕ → ℕ → Type 0) where
-  fits_too : {trees others : Trees} → HaveSameTables trees others → (r : Reference) (place : List ℕ × ℕ) → FitsThere below trees r place →
-      FitsThere below others r place
+module _ (rules : Rules) where
+  fits_too : {trees others : Trees} → HaveSameTables trees others → (r : Reference) (place : List ℕ × ℕ) → FitsThere rules.below trees r place →
+      FitsThere rules.below others r place
   fits_too all r place (tree, is, has, (type, called, under)) =
       let (other, there, same) = there_too (all place.0) is in
       (other, there, subst (λ (xs : List ℕ). Contains xs place.1) (same_exports same) has, (type, same_named same called, under))
 
   module _ {trees others : Trees} (all : HaveSameTables trees others) (back : HaveSameTables others trees) where
-    link_too : {tree other : Parts} → SameTables tree other → (address : List ℕ) (r : Reference) (link : Link) → LinksTo below trees address tree r link →
-        LinksTo below others address other r link
+    link_too : {tree other : Parts} → SameTables tree other → (address : List ℕ) (r : Reference) (link : Link) → LinksTo rules trees address tree r link →
+        LinksTo rules others address other r link
     link_too {tree} {other} same address r link leads =
-        link_over below trees others address tree other r (λ n is. same_own same below r is) (fits_too all r) (fits_too back r) link leads
+        link_over rules trees others address tree other r (λ n is. same_own same rules.below r is) (fits_too all r) (fits_too back r) link leads
 
     lead_too : {tree other : Parts} → SameTables tree other → {address : List ℕ} {place : Option Place} {link : Link} →
-        LeadsFrom below trees address tree place link → LeadsFrom below others address other place link
+        LeadsFrom rules trees address tree place link → LeadsFrom rules others address other place link
     lead_too same no_place = no_place
     lead_too same named = named
     lead_too same {address = address} (refers {i = i} {r = r} {link = link} at leads) =
         refers (ap (λ (refs : List Reference). slice_get refs i.0) (sym same.refs) ∙ at) (link_too same address r link leads)
 
-    meant_too : {address : List ℕ} {offset : ℕ} {link : Link} → IsMeantAt below trees address offset link → IsMeantAt below others address offset link
+    meant_too : {address : List ℕ} {offset : ℕ} {link : Link} → IsMeantAt rules trees address offset link → IsMeantAt rules others address offset link
     meant_too {address = address} (treeless absent) = treeless (absent_too (all address) absent)
     meant_too {address = address} (at_place is at leads) =
         let (other, there, same) = there_too (all address) is in at_place there (place_too same at) (lead_too same leads)
@@ -103,7 +104,7 @@ module _ (below : ℕ → ℕ → Type 0) where
         let (other, there, same) = there_too (all target.0) is.is_tree in
         record { tree = other; is_tree = there; text = is.text; named = sym (same_names same target.1) ∙ is.named; here = is.here }
 
-    use_too : (target : List ℕ × ℕ) (m : Mention) → IsUseHere below trees target m → IsUseHere below others target m
+    use_too : (target : List ℕ × ℕ) (m : Mention) → IsUseHere rules trees target m → IsUseHere rules others target m
     use_too target m is =
         let (other, there, same) = there_too (all m.address) is.is_tree in
         record {
@@ -115,27 +116,27 @@ module _ (below : ℕ → ℕ → Type 0) where
           here = is.here;
         }
 
-    mention_too : (declaration : Bool) (target : List ℕ × ℕ) (m : Mention) → IsMentionOf below trees declaration target m →
-        IsMentionOf below others declaration target m
+    mention_too : (declaration : Bool) (target : List ℕ × ℕ) (m : Mention) → IsMentionOf rules trees declaration target m →
+        IsMentionOf rules others declaration target m
     mention_too declaration target m (used is) = used (use_too target m is)
     mention_too declaration target m (declared counts is) = declared counts (name_too target m is)
 
   module _ {trees others : Trees} (all : HaveSameTables trees others) (back : HaveSameTables others trees) where
-    mentions_too : (declaration : Bool) (target : List ℕ × ℕ) (mentions : List Mention) → AreMentionsOf below trees declaration target mentions →
-        AreMentionsOf below others declaration target mentions
+    mentions_too : (declaration : Bool) (target : List ℕ × ℕ) (mentions : List Mention) → AreMentionsOf rules trees declaration target mentions →
+        AreMentionsOf rules others declaration target mentions
     mentions_too declaration target mentions are = record {
       exact = λ m.
           (λ has. mention_too all back declaration target m ((are.exact m).0 has), λ is. (are.exact m).1 (mention_too back all declaration target m is));
       ordered = are.ordered;
     }
 
-    pub definition_too : (address : List ℕ) (offset : ℕ) (m : Option Mention) → IsDefinitionAt below trees address offset m →
-        IsDefinitionAt below others address offset m
+    pub definition_too : (address : List ℕ) (offset : ℕ) (m : Option Mention) → IsDefinitionAt rules trees address offset m →
+        IsDefinitionAt rules others address offset m
     definition_too address offset m (nothing_meant none) = nothing_meant (meant_too all back none)
     definition_too address offset m (defined {target = target} {m = at} is called) = defined (meant_too all back is) (name_too all back target at called)
 
     pub references_too : (address : List ℕ) (offset : ℕ) (declaration : Bool) (mentions : Option (List Mention)) →
-        AreReferencesAt below trees address offset declaration mentions → AreReferencesAt below others address offset declaration mentions
+        AreReferencesAt rules trees address offset declaration mentions → AreReferencesAt rules others address offset declaration mentions
     references_too address offset declaration mentions (nothing_meant none) = nothing_meant (meant_too all back none)
     references_too address offset declaration mentions (mentioned {target = target} {mentions = ms} is are) =
         mentioned (meant_too all back is) (mentions_too declaration target ms are)

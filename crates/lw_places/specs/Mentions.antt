@@ -13,6 +13,7 @@ use Rattle.lw_tree.specs.Parts.{Parts, name_of}
 use Rattle.lw_places.specs.Places.{IsPlaceAt}
 use Rattle.lw_places.specs.declared.place.Place.{Place}
 use Rattle.lw_places.specs.declared.place.Place.TheVariants.{Named, Refers}
+use Rattle.lw_scoping.specs.Rules.{Rules}
 
 -- some bytes of the text of a document
 pub record Mention : Type 0 where
@@ -34,12 +35,12 @@ pub record IsNameHere (trees : Trees) (target : List ℕ × ℕ) (m : Mention) :
   pub here : m.address ≡ target.0
 
 -- `below t want`: the type t is the type want or below it
-module _ (below : ℕ → ℕ → Type 0) (trees : Trees) where
+module _ (rules : Rules) (trees : Trees) where
   -- what a place of the document at an address leads to: a name to its node, a reference to its target
   pub data LeadsFrom (address : List ℕ) (tree : Parts) : Option Place → Link → Type 0 where
     no_place : LeadsFrom address tree None None
     named : {n : NodeId} → LeadsFrom address tree (Some (Named n)) (Some (address, n.0))
-    refers : {i : RefId} {r : Reference} {link : Link} → slice_get tree.refs i.0 ≡ Some r → LinksTo below trees address tree r link →
+    refers : {i : RefId} {r : Reference} {link : Link} → slice_get tree.refs i.0 ≡ Some r → LinksTo rules trees address tree r link →
         LeadsFrom address tree (Some (Refers i)) link
 
   -- the node that is meant at an offset of the document at an address, by address and number, or None
@@ -54,7 +55,7 @@ module _ (below : ℕ → ℕ → Type 0) (trees : Trees) where
     pub is_tree : trees m.address ≡ Some tree
     pub r : Reference
     pub among : Contains tree.refs r
-    pub leads : LinksTo below trees m.address tree r (Some target)
+    pub leads : LinksTo rules trees m.address tree r (Some target)
     pub here : r.span ≡ m.span
 
   -- a node is mentioned here: by a reference, or by its own name where the declaration counts

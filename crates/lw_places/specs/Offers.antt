@@ -8,11 +8,12 @@ use Rattle.std.specs.declared.cmp.Ordering.TheVariants.{Less}
 use Rattle.lw_base.specs.declared.limits.TheConstants.{LONGEST_DOCUMENT}
 use Rattle.lw_base.specs.declared.token.Token.{Token}
 use Rattle.lw_grammar.specs.declared.grammar.Grammar.{Grammar}
+use Rattle.lw_link_rules.specs.Setting.{Setting}
 use Rattle.lw_grammar.specs.Kinds.{AreKinds, IsKeywordKind, Kinds}
 use Rattle.lw_reading.specs.Follows.{LooksUp, RefersBy}
 use Rattle.lw_reading.specs.Reading.{Reads}
 use Rattle.lw_reading.specs.declared.parsed.Parsed.TheVariants.{Whole}
-use Rattle.lw_link_rules.specs.Links.{AreTreesOfTexts, IsNumberBelow, Texts}
+use Rattle.lw_link_rules.specs.Links.{AreTreesOfTexts, Texts, rules_of}
 use Rattle.lw_scoping.specs.Links.{Trees}
 use Rattle.lw_grammar.specs.Marks.{Mark}
 use Rattle.lw_grammar.specs.Sentences.{IsSentence, Starts}
@@ -71,38 +72,38 @@ pub record HasReferenceAt (g : Grammar) (text : List ℕ) (start end : ℕ) (tre
   pub starts : r.span.start ≡ start
   pub ends : r.span.end ≡ end
 
-module _ (g : Grammar) (of : Kinds) (lexicon : Lexicon) (trees : Trees) (address front rest : List ℕ) (tokens : List Token) where
+module _ (setting : Setting) (of : Kinds) (lexicon : Lexicon) (trees : Trees) (address front rest : List ℕ) (tokens : List Token) where
   -- the text with the name in it has a tree in which the name is a reference
   abbrev pub HasReference : List ℕ → Parts → Reference → Type 0
-  HasReference name tree r = HasReferenceAt g (front ++ name ++ rest) (length front) (length front + length name) tree r
+  HasReference name tree r = HasReferenceAt setting.grammar (front ++ name ++ rest) (length front) (length front + length name) tree r
 
   -- a name is judged by that tree, and where there is none by the tree of what was read before
   pub data LeadsSomewhere (next : ReferenceNext) (name : List ℕ) : Type 0 where
-    in_whole : {tree : Parts} {r : Reference} → HasReference name tree r → HasTarget (IsNumberBelow g) trees address tree r → LeadsSomewhere next name
-    in_front : {tree : Parts} {r : Reference} → ((other : Parts) (s : Reference) → ¬ HasReference name other s) → IsFrontTree g of front tokens next tree r →
-        HasTarget (IsNumberBelow g) trees address tree (renamed_to name r) → LeadsSomewhere next name
+    in_whole : {tree : Parts} {r : Reference} → HasReference name tree r → HasTarget (rules_of setting) trees address tree r → LeadsSomewhere next name
+    in_front : {tree : Parts} {r : Reference} → ((other : Parts) (s : Reference) → ¬ HasReference name other s) → IsFrontTree setting of front tokens next tree r →
+        HasTarget (rules_of setting) trees address tree (renamed_to name r) → LeadsSomewhere next name
 
   -- some cross-reference that comes next would lead somewhere by the name, by what stands around it
   pub record IsFoundNext (name : List ℕ) : Type 0 where
     pub next : ReferenceNext
-    pub comes : ComesNext g of tokens next
-    pub findable : IsFindable g of lexicon trees address front rest tokens next name
+    pub comes : ComesNext setting of tokens next
+    pub findable : IsFindable setting of lexicon trees address front rest tokens next name
 
   -- the name is read as a reference that comes next, and leads somewhere
   pub record IsNameNext (name : List ℕ) : Type 0 where
     pub found : IsFoundNext name
     pub next : ReferenceNext
-    pub comes : ComesNext g of tokens next
-    pub read : ReadsAsReference g of lexicon front tokens next name
+    pub comes : ComesNext setting of tokens next
+    pub read : ReadsAsReference setting.grammar of lexicon front tokens next name
     pub leads : LeadsSomewhere next name
 
   -- what is offered in place of the word
   pub data IsOffered (word : List ℕ) : Offer → Type 0 where
-    keyword : {text : List ℕ} → BeginsBy word text → IsKeywordNext g of lexicon front tokens text → IsOffered word (keyword_offer text)
+    keyword : {text : List ℕ} → BeginsBy word text → IsKeywordNext setting.grammar of lexicon front tokens text → IsOffered word (keyword_offer text)
     name : {n : List ℕ} → BeginsBy word n → IsNameNext n → IsOffered word (name_offer n)
 
 -- the kinds, the lexicon and the trees of all documents are these, and the document at the address has this text
-module _ (g : Grammar) (of : Kinds) (lexicon : Lexicon) (trees : Trees) (address text : List ℕ) (offset : ℕ) where
+module _ (setting : Setting) (of : Kinds) (lexicon : Lexicon) (trees : Trees) (address text : List ℕ) (offset : ℕ) where
   -- an offer at an offset: nothing is offered where the text is longer than a document may be, or cannot be cut into tokens up to the word
   pub record IsOffer (offer : Offer) : Type 0 where
     pub short : length text ≤ LONGEST_DOCUMENT
@@ -112,15 +113,15 @@ module _ (g : Grammar) (of : Kinds) (lexicon : Lexicon) (trees : Trees) (address
     pub typed : IsTypedAt text offset front word rest
     pub tokens : List Token
     pub cut : IsCut lexicon front tokens
-    pub offered : IsOffered g of lexicon trees address front rest tokens word offer
+    pub offered : IsOffered setting of lexicon trees address front rest tokens word offer
 
 -- all that is offered at an offset of the document at an address, in order, by the texts of all documents
-pub record AreOffers (g : Grammar) (texts : Texts) (address text : List ℕ) (offset : ℕ) (offers : List Offer) : Type 0 where
+pub record AreOffers (setting : Setting) (texts : Texts) (address text : List ℕ) (offset : ℕ) (offers : List Offer) : Type 0 where
   pub of : Kinds
-  pub are_kinds : AreKinds g of
+  pub are_kinds : AreKinds setting.grammar of
   pub lexicon : Lexicon
-  pub is_lexicon : IsLexicon g of lexicon
+  pub is_lexicon : IsLexicon setting.grammar of lexicon
   pub trees : Trees
-  pub are_trees : AreTreesOfTexts g texts trees
-  pub exact : (offer : Offer) → Contains offers offer ↔ IsOffer g of lexicon trees address text offset offer
+  pub are_trees : AreTreesOfTexts setting.grammar texts trees
+  pub exact : (offer : Offer) → Contains offers offer ↔ IsOffer setting of lexicon trees address text offset offer
   pub ordered : AllPairs OfferPrecedes offers

@@ -7,11 +7,11 @@ use Rattle.std.specs.Cmp.Lexicographic.{slice_cmp}
 use Rattle.std.specs.Ordering.{nat_cmp}
 use Rattle.std.specs.Str.{IsUtf8}
 use Rattle.std.specs.declared.cmp.Ordering.TheVariants.{Less}
-use Rattle.lw_grammar.specs.declared.grammar.Grammar.{Grammar}
+use Rattle.lw_link_rules.specs.Setting.{Setting}
 use Rattle.lw_places.specs.Mentions.{AreMentionsOf, IsMeantAt, Mention}
 use Rattle.lw_reading.specs.Reading.{Reads}
 use Rattle.lw_reading.specs.declared.parsed.Parsed.TheVariants.{Whole, Broken}
-use Rattle.lw_link_rules.specs.Links.{AreLinks, AreTreesOfTexts, IsNumberBelow, Texts}
+use Rattle.lw_link_rules.specs.Links.{AreLinks, AreTreesOfTexts, Texts, rules_of}
 use Rattle.lw_scoping.specs.Links.{Link, Trees}
 use Rattle.lw_tree.specs.declared.issue.Issue.{Issue}
 use Rattle.lw_tree.specs.Parts.{Parts}
@@ -29,43 +29,43 @@ pub data Refusal : Type 0 where
   -- the reference of this number in the document at the address led to the first of these, and would lead to the second
   Rebound : List ℕ → ℕ → Link → Link → Refusal
 
-module _ (g : Grammar) where
+module _ (setting : Setting) where
   -- the text is no document of the language: its bytes are not UTF-8, or it has a fault
   pub data CannotBeRead (text : List ℕ) : Type 0 where
     no_text : ¬ IsUtf8 text → CannotBeRead text
-    broken : {issue : Issue} → Reads g text (Broken issue) → CannotBeRead text
+    broken : {issue : Issue} → Reads setting.grammar text (Broken issue) → CannotBeRead text
 
   -- from these texts to those
   module _ (texts after : Texts) where
     -- the document at the address is spoiled: it cannot be read any more, or has another shape
     pub data IsSpoiledAt (address : List ℕ) : Refusal → Type 0 where
       unreadable : {text : List ℕ} → after address ≡ Some text → CannotBeRead text → IsSpoiledAt address (NotParsed address)
-      reshaped : {text now : List ℕ} {tree other : Parts} {n : ℕ} → texts address ≡ Some text → Reads g text (Whole tree) → after address ≡ Some now →
-          IsUtf8 now → Reads g now (Whole other) → IsFirstUnlike g tree other n → IsSpoiledAt address (Shape address n)
+      reshaped : {text now : List ℕ} {tree other : Parts} {n : ℕ} → texts address ≡ Some text → Reads setting.grammar text (Whole tree) → after address ≡ Some now →
+          IsUtf8 now → Reads setting.grammar now (Whole other) → IsFirstUnlike setting.grammar tree other n → IsSpoiledAt address (Shape address n)
 
     -- it is read whole, and has the shape that it had
     pub record IsKeptAt (address : List ℕ) : Type 0 where
       pub text : List ℕ
       pub was : texts address ≡ Some text
       pub tree : Parts
-      pub reads : Reads g text (Whole tree)
+      pub reads : Reads setting.grammar text (Whole tree)
       pub now : List ℕ
       pub is : after address ≡ Some now
       pub utf8 : IsUtf8 now
       pub other : Parts
-      pub still_reads : Reads g now (Whole other)
-      pub same_shape : HaveSameShape g tree other
+      pub still_reads : Reads setting.grammar now (Whole other)
+      pub same_shape : HaveSameShape setting.grammar tree other
 
     -- the references of the document at the address lead where they led
     abbrev pub LinksStay : List ℕ → Type 0
-    LinksStay address = (links : List Link) × AreLinks g texts address links × AreLinks g after address links
+    LinksStay address = (links : List Link) × AreLinks setting texts address links × AreLinks setting after address links
 
     -- this reference does not, and each before it does, by address and number
     pub record IsRebound (address : List ℕ) (i : ℕ) (before behind : Link) : Type 0 where
       pub was : List Link
-      pub were : AreLinks g texts address was
+      pub were : AreLinks setting texts address was
       pub now : List Link
-      pub are : AreLinks g after address now
+      pub are : AreLinks setting after address now
       pub led : slice_get was i ≡ Some before
       pub leads : slice_get now i ≡ Some behind
       pub differ : before ≢ behind
@@ -76,16 +76,16 @@ module _ (g : Grammar) where
     -- what is meant at the offset, and its mentions, the name of its own among them
     pub record AreRenamed (mentions : List Mention) : Type 0 where
       pub trees : Trees
-      pub are_trees : AreTreesOfTexts g texts trees
+      pub are_trees : AreTreesOfTexts setting.grammar texts trees
       pub target : List ℕ × ℕ
-      pub meant : IsMeantAt (IsNumberBelow g) trees address offset (Some target)
-      pub are_mentions : AreMentionsOf (IsNumberBelow g) trees true target mentions
+      pub meant : IsMeantAt (rules_of setting) trees address offset (Some target)
+      pub are_mentions : AreMentionsOf (rules_of setting) trees true target mentions
 
     -- nothing is meant there
     pub record NothingIsMeant : Type 0 where
       pub trees : Trees
-      pub are_trees : AreTreesOfTexts g texts trees
-      pub none : IsMeantAt (IsNumberBelow g) trees address offset None
+      pub are_trees : AreTreesOfTexts setting.grammar texts trees
+      pub none : IsMeantAt (rules_of setting) trees address offset None
 
     module _ (new : List ℕ) where
       -- the outcome: the mentions that are to be replaced, or why nothing is

@@ -8,6 +8,7 @@ use Rattle.std.specs.declared.cmp.Ordering.TheVariants.{Less}
 use Rattle.lw_scoping.specs.Links.{LinksTo, Trees}
 use Rattle.lw_tree.specs.declared.node.Reference.{Reference}
 use Rattle.lw_tree.specs.Parts.{Parts}
+use Rattle.lw_scoping.specs.Rules.{Rules}
 
 -- the same reference by another name
 abbrev pub renamed_to : List ℕ → Reference → Reference
@@ -18,10 +19,10 @@ abbrev pub having_tree : List ℕ → Parts → Trees → Trees
 having_tree address tree trees other = if bytes_eq other address then Some tree else trees other
 
 -- `below t want`: the type t is the type want or below it
-module _ (below : ℕ → ℕ → Type 0) (trees : Trees) (address : List ℕ) (tree : Parts) where
+module _ (rules : Rules) (trees : Trees) (address : List ℕ) (tree : Parts) where
   -- the reference leads to a node, where the document at the address has this tree
   abbrev pub HasTarget : Reference → Type 0
-  HasTarget r = (target : List ℕ × ℕ) × LinksTo below (having_tree address tree trees) address tree r (Some target)
+  HasTarget r = (target : List ℕ × ℕ) × LinksTo rules (having_tree address tree trees) address tree r (Some target)
 
   -- these are the names by which it would, in the order of their bytes, each once
   pub record AreVisible (r : Reference) (names : List (List ℕ)) : Type 0 where

@@ -43,12 +43,13 @@ use Rattle.lw_query.specs.declared.spot.Spot.{Spot}
 use Rattle.lw_query.proofs.Led.{is_led}
 use Rattle.lw_query.proofs.Named.{HasName, meant_named, place_there}
 use Rattle.lw_query.proofs.Rows.{beside, differ}
+use Rattle.lw_scoping.specs.Rules.{Rules}
 
-module _ (below : ℕ → ℕ → Type 0) (tree_at : ℕ → Option Parts) (answers_at : ℕ → List Answer) (Stands : ℕ → List ℕ → Type 0) (trees : Trees)
-    (views : AreViewsOf below tree_at answers_at Stands trees) where
+module _ (rules : Rules) (tree_at : ℕ → Option Parts) (answers_at : ℕ → List Answer) (Stands : ℕ → List ℕ → Type 0) (trees : Trees)
+    (views : AreViewsOf rules tree_at answers_at Stands trees) where
   -- the answer leads to what is meant at the offset
   abbrev pub IsMeantBy : List ℕ → ℕ → Answer → Type 0
-  IsMeantBy address offset answer = (link : Link) × LeadsAs Stands answer link × IsMeantAt below trees address offset link
+  IsMeantBy address offset answer = (link : Link) × LeadsAs Stands answer link × IsMeantAt rules trees address offset link
 
   pub missing_without_tree : (doc : ℕ) (address : List ℕ) (offset : ℕ) → Stands doc address → tree_at doc ≡ None → IsMeantBy address offset Missing
   missing_without_tree doc address offset stands absent = (None, missing, treeless (sym (views.same_tree doc address stands) ∙ absent))
@@ -61,7 +62,7 @@ module _ (below : ℕ → ℕ → Type 0) (tree_at : ℕ → Option Parts) (answ
         IsMeantBy address offset (unwrap_or (slice_get (answers_at doc.0) i.0) Missing)
     answered_at_reference i at =
         let (r, in_tree) = place_there tree offset (Some (Refers i)) at in
-        let (given, among, links) = beside (IsLinkAnswer below Stands trees address tree) tree.refs (answers_at doc.0)
+        let (given, among, links) = beside (IsLinkAnswer rules Stands trees address tree) tree.refs (answers_at doc.0)
         (views.linked doc.0 address tree stands is_tree) i.0 r in_tree in
         subst (λ (a : Option Answer). IsMeantBy address offset (unwrap_or a Missing)) (sym among)
         (links.link, links.leads, at_place read_there at (refers in_tree links.is_link))
@@ -118,12 +119,12 @@ module _ (below : ℕ → ℕ → Type 0) (tree_at : ℕ → Option Parts) (answ
   -- ---- the definition
 
   abbrev pub IsDefinedBy : List ℕ → ℕ → Option Spot → Type 0
-  IsDefinedBy address offset spot = MatchOption spot (IsDefinitionAt below trees address offset None)
-      (λ s. (m : Mention) × IsMentionAt Stands s m × IsDefinitionAt below trees address offset (Some m))
+  IsDefinedBy address offset spot = MatchOption spot (IsDefinitionAt rules trees address offset None)
+      (λ s. (m : Mention) × IsMentionAt Stands s m × IsDefinitionAt rules trees address offset (Some m))
 
   module _ (address : List ℕ) (offset : ℕ) where
-    pub nothing_meant_by : IsMeantBy address offset Missing → IsMeantAt below trees address offset None
-    nothing_meant_by (link, leads, is) = subst (IsMeantAt below trees address offset) (is_led Stands Missing link leads) is
+    pub nothing_meant_by : IsMeantBy address offset Missing → IsMeantAt rules trees address offset None
+    nothing_meant_by (link, leads, is) = subst (IsMeantAt rules trees address offset) (is_led Stands Missing link leads) is
 
     pub nothing_defined : IsMeantBy address offset Missing → IsDefinedBy address offset None
     nothing_defined is = nothing_meant (nothing_meant_by is)
@@ -132,7 +133,7 @@ module _ (below : ℕ → ℕ → Type 0) (tree_at : ℕ → Option Parts) (answ
     pub record IsFoundAt (target : Target) : Type 0 where
       pub there : List ℕ
       pub stands : Stands target.doc.0 there
-      pub meant : IsMeantAt below trees address offset (Some (there, target.node.0))
+      pub meant : IsMeantAt rules trees address offset (Some (there, target.node.0))
       pub tree : Parts
       pub is_tree : tree_at target.doc.0 ≡ Some tree
       pub has_name : HasName tree target.node.0
@@ -140,8 +141,8 @@ module _ (below : ℕ → ℕ → Type 0) (tree_at : ℕ → Option Parts) (answ
     pub found_there : (target : Target) → IsMeantBy address offset (Found target) → IsFoundAt target
     found_there target (link, leads, is) =
         let (there, stands, same) = is_led Stands (Found target) link leads in
-        let meant = subst (IsMeantAt below trees address offset) same is in
-        let (tree, at, has) = meant_named below trees address offset (Some (there, target.node.0)) meant in
+        let meant = subst (IsMeantAt rules trees address offset) same is in
+        let (tree, at, has) = meant_named rules trees address offset (Some (there, target.node.0)) meant in
         record { there = there; stands = stands; meant = meant; tree = tree; is_tree = views.same_tree target.doc.0 there stands ∙ at; has_name = has }
 
     pub node_defined : (target : Target) → IsMeantBy address offset (Found target) → IsDefinedBy address offset (target_spot (tree_at target.doc.0) target)

@@ -58,6 +58,7 @@ use Rattle.lw_query.proofs.Keys.{addresses, ends, less_numbers, same_address, sa
 use Rattle.lw_query.proofs.Led.{answer_of_user, found_by, is_led, user_of}
 use Rattle.lw_query.proofs.Meant.{name_of_spot, name_spot_of}
 use Rattle.lw_query.proofs.Rows.{all_both, at_of, beside, beside_back, contains_at, differ, in_image, of_image, zip_images}
+use Rattle.lw_scoping.specs.Rules.{Rules}
 
 -- ---- the order
 
@@ -118,8 +119,8 @@ use_of_spot tree_at slot spot there = by (tree_at slot.doc.0) refl there
 
 -- ---- the mentions
 
-module _ (below : ℕ → ℕ → Type 0) (tree_at : ℕ → Option Parts) (answers_at : ℕ → List Answer) (Stands : ℕ → List ℕ → Type 0) (trees : Trees)
-    (views : AreViewsOf below tree_at answers_at Stands trees) (led : Led) (given : (n : ℕ) → answers_in led n ≡ answers_at n) (declaration : Bool)
+module _ (rules : Rules) (tree_at : ℕ → Option Parts) (answers_at : ℕ → List Answer) (Stands : ℕ → List ℕ → Type 0) (trees : Trees)
+    (views : AreViewsOf rules tree_at answers_at Stands trees) (led : Led) (given : (n : ℕ) → answers_in led n ≡ answers_at n) (declaration : Bool)
     (target : Target) (address : List ℕ) (stands : Stands target.doc.0 address) (tree : Parts) (is_tree : tree_at target.doc.0 ≡ Some tree) (low : target.node.0 < length tree.nodes) where
   abbrev place : List ℕ × ℕ
   place = (address, target.node.0)
@@ -128,10 +129,10 @@ module _ (below : ℕ → ℕ → Type 0) (tree_at : ℕ → Option Parts) (answ
   Wanted = IsSpotOfMention tree_at led declaration target
 
   abbrev R : List ℕ → Parts → Reference → Answer → Type 0
-  R a t = IsLinkAnswer below Stands trees a t
+  R a t = IsLinkAnswer rules Stands trees a t
 
   is_use : (spot : Spot) (m : Mention) → IsMentionAt Stands spot m → (slot : SlotId) → IsUser led target slot → slot_spot (tree_at slot.doc.0) slot ≡ Some spot →
-      IsUseHere below trees place m
+      IsUseHere rules trees place m
   is_use spot m at slot user there =
       let s = use_of_spot tree_at slot spot there in
       let stand : Stands slot.doc.0 m.address = subst (λ (x : Spot). Stands x.doc.0 m.address) (sym s.same) at.stands in
@@ -146,13 +147,13 @@ module _ (below : ℕ → ℕ → Type 0) (tree_at : ℕ → Option Parts) (answ
         is_tree = sym (views.same_tree slot.doc.0 m.address stand) ∙ s.is_tree;
         r = r;
         among = contains_at s.tree.refs slot.reference.0 r row;
-        leads = subst (LinksTo below trees m.address s.tree r) to link.is_link;
+        leads = subst (LinksTo rules trees m.address s.tree r) to link.is_link;
         here = ap (λ (x : Reference). x.span) (same_Some r s.r (sym row ∙ s.at)) ∙ ap (λ (x : Spot). x.span) s.same ∙ at.span;
       }
 
   is_name : (spot : Spot) (m : Mention) → IsMentionAt Stands spot m → target_spot (tree_at target.doc.0) target ≡ Some spot → IsNameHere trees place m
   is_name spot m at there =
-      let d = name_of_spot below tree_at answers_at Stands trees views target spot there in
+      let d = name_of_spot rules tree_at answers_at Stands trees views target spot there in
       let stand : Stands target.doc.0 m.address = subst (λ (x : DocId). Stands x.0 m.address) d.doc at.stands in
       record {
         tree = d.tree;
@@ -162,7 +163,7 @@ module _ (below : ℕ → ℕ → Type 0) (tree_at : ℕ → Option Parts) (answ
         here = views.one_address target.doc.0 m.address address stand stands;
       }
 
-  is_mention : (spot : Spot) (m : Mention) → IsMentionAt Stands spot m → Wanted spot → IsMentionOf below trees declaration place m
+  is_mention : (spot : Spot) (m : Mention) → IsMentionAt Stands spot m → Wanted spot → IsMentionOf rules trees declaration place m
   is_mention spot m at (spots.used slot user there) = used (is_use spot m at slot user there)
   is_mention spot m at (spots.declared counts there) = declared counts (is_name spot m at there)
 
@@ -172,13 +173,13 @@ module _ (below : ℕ → ℕ → Type 0) (tree_at : ℕ → Option Parts) (answ
     pub wanted : Wanted spot
     pub at : IsMentionAt Stands spot m
 
-  use_spot_of : (m : Mention) → IsUseHere below trees place m → HasSpot m
+  use_spot_of : (m : Mention) → IsUseHere rules trees place m → HasSpot m
   use_spot_of m u =
       let (n, stand) = views.numbered m.address u.tree u.is_tree in
       let at_n : tree_at n ≡ Some u.tree = views.same_tree n m.address stand ∙ u.is_tree in
       let (i, at) = at_of u.tree.refs u.r u.among in
       let (answer, among, link) = beside (R m.address u.tree) u.tree.refs (answers_at n) (views.linked n m.address u.tree stand at_n) i u.r at in
-      let to = one_target below trees m.address u.tree u.r link.link (Some place) link.is_link u.leads in
+      let to = one_target rules trees m.address u.tree u.r link.link (Some place) link.is_link u.leads in
       let same = found_by Stands views.one_number target address stands answer (subst (LeadsAs Stands answer) to link.leads) in
       let slot : SlotId = record { doc = record { 0 = n }; reference = record { 0 = i } } in
       let user = user_of led target slot (ap (λ (xs : List Answer). slice_get xs i) (given n) ∙ among ∙ ap Some same) in
@@ -190,7 +191,7 @@ module _ (below : ℕ → ℕ → Type 0) (tree_at : ℕ → Option Parts) (answ
   name_spot_at m counts d =
       let at : tree_at target.doc.0 ≡ Some d.tree = views.same_tree target.doc.0 address stands ∙ d.is_tree in
       let same : tree ≡ d.tree = same_Some tree d.tree (sym is_tree ∙ at) in
-      let there = name_spot_of below tree_at answers_at Stands trees views target d.tree at
+      let there = name_spot_of rules tree_at answers_at Stands trees views target d.tree at
       (subst (λ (t : Parts). target.node.0 < length t.nodes) same low) d.text m.span d.named in
       record {
         spot = record { doc = target.doc; span = m.span };
@@ -198,7 +199,7 @@ module _ (below : ℕ → ℕ → Type 0) (tree_at : ℕ → Option Parts) (answ
         at = record { stands = subst (Stands target.doc.0) (sym d.here) stands; span = refl };
       }
 
-  spot_of_mention : (m : Mention) → IsMentionOf below trees declaration place m → HasSpot m
+  spot_of_mention : (m : Mention) → IsMentionOf rules trees declaration place m → HasSpot m
   spot_of_mention m (used is) = use_spot_of m is
   spot_of_mention m (declared counts is) = name_spot_at m counts is
 
@@ -218,13 +219,13 @@ module _ (below : ℕ → ℕ → Type 0) (tree_at : ℕ → Option Parts) (answ
     abbrev mentions : List Mention
     mentions = map mention_of_key are.keys
 
-    listed : (m : Mention) → Contains mentions m → IsMentionOf below trees declaration place m
+    listed : (m : Mention) → Contains mentions m → IsMentionOf rules trees declaration place m
     listed m has =
         let (k, inside, is) = of_image mention_of_key are.keys m has in
         let (wanted, stand) = sound k inside in
-        subst (IsMentionOf below trees declaration place) is (is_mention (spot_of_key k) (mention_of_key k) (record { stands = stand; span = refl }) wanted)
+        subst (IsMentionOf rules trees declaration place) is (is_mention (spot_of_key k) (mention_of_key k) (record { stands = stand; span = refl }) wanted)
 
-    lists : (m : Mention) → IsMentionOf below trees declaration place m → Contains mentions m
+    lists : (m : Mention) → IsMentionOf rules trees declaration place m → Contains mentions m
     lists m is =
         let h = spot_of_mention m is in
         let keeps = are.put_in.put_in h.spot m.address h.wanted h.at.stands in
@@ -236,7 +237,7 @@ module _ (below : ℕ → ℕ → Type 0) (tree_at : ℕ → Option Parts) (answ
         let same : mention_of_key keeps.key ≡ m = λ i. record { address = where_ i; span = span i } in
         subst (Contains mentions) same (in_image mention_of_key are.keys keeps.key keeps.among)
 
-    pub are_mentions : (ms : List Mention) × AllZip (IsMentionAt Stands) found ms × AreMentionsOf below trees declaration place ms
+    pub are_mentions : (ms : List Mention) × AllZip (IsMentionAt Stands) found ms × AreMentionsOf rules trees declaration place ms
     are_mentions =
         let zipped = zip_images (IsMentionAt Stands) spot_of_key mention_of_key (IsAddressed Stands)
         (λ k stand. record { stands = stand; span = refl }) are.keys all_stand in (

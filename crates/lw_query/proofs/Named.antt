@@ -12,6 +12,7 @@ use Rattle.lw_places.specs.Mentions.{IsMeantAt, LeadsFrom, no_place, named, refe
 use Rattle.lw_places.specs.Places.{IsPlaceAt, TakesUp, name, reference, inside, at_end, nothing}
 use Rattle.lw_places.specs.declared.place.Place.{Place}
 use Rattle.lw_places.specs.declared.place.Place.TheVariants.{Named, Refers}
+use Rattle.lw_scoping.specs.Rules.{Rules}
 
 -- a node of the tree that has a name
 pub record HasName (tree : Parts) (n : ℕ) : Type 0 where
@@ -44,31 +45,31 @@ abbrev pub IsNamedLink : Trees → Link → Type 0
 IsNamedLink trees None = Unit {0}
 IsNamedLink trees (Some target) = (tree : Parts) × (trees target.0 ≡ Some tree) × HasName tree target.1
 
-module _ (below : ℕ → ℕ → Type 0) (trees : Trees) where
-  fits_named : (tree : Parts) (r : Reference) (n : ℕ) → Fits below tree r n → HasName tree n
+module _ (rules : Rules) (trees : Trees) where
+  fits_named : (tree : Parts) (r : Reference) (n : ℕ) → Fits rules.below tree r n → HasName tree n
   fits_named tree r n (type, is, _) =
       record { in_tree = slice_get_within tree.nodes n is.node is.there; text = r.name; span = is.span; named = is.named }
 
-  own_named : (tree : Parts) (r : Reference) (n : Option ℕ) → IsOwn below tree r n → (m : ℕ) → n ≡ Some m → HasName tree m
+  own_named : (tree : Parts) (r : Reference) (n : Option ℕ) → IsOwn rules.below tree r n → (m : ℕ) → n ≡ Some m → HasName tree m
   own_named tree r n is m at = first_named (flat_map (locals tree) is.path) n is.first m at
     where
-      first_named : (xs : List ℕ) (k : Option ℕ) → IsFirstIn (Fits below tree r) xs k → (l : ℕ) → k ≡ Some l → HasName tree l
+      first_named : (xs : List ℕ) (k : Option ℕ) → IsFirstIn (Fits rules.below tree r) xs k → (l : ℕ) → k ≡ Some l → HasName tree l
       first_named xs k (found {x = x} first) l is = subst (HasName tree) (same_Some x l is) (fits_named tree r x first.does)
       first_named xs k (none _) l is = absurd (let no = is in cc)
 
-  link_named : (address : List ℕ) (tree : Parts) (r : Reference) (link : Link) → trees address ≡ Some tree → LinksTo below trees address tree r link →
+  link_named : (address : List ℕ) (tree : Parts) (r : Reference) (link : Link) → trees address ≡ Some tree → LinksTo rules trees address tree r link →
       IsNamedLink trees link
   link_named address tree r link there (own {n = n} is) = (tree, there, own_named tree r (Some n) is n refl)
   link_named address tree r link there (out {place = place} _ fits _) = (fits.0, fits.1, fits_named fits.0 r place.1 fits.3)
   link_named address tree r link there (nowhere _ _) = tt
 
   lead_named : (address : List ℕ) (tree : Parts) (place : Option Place) (link : Link) → trees address ≡ Some tree → IsThere tree place →
-      LeadsFrom below trees address tree place link → IsNamedLink trees link
+      LeadsFrom rules trees address tree place link → IsNamedLink trees link
   lead_named address tree place link there is no_place = tt
   lead_named address tree place link there is named = (tree, there, is)
   lead_named address tree place link there is (refers {r = r} at leads) = link_named address tree r link there leads
 
-  pub meant_named : (address : List ℕ) (offset : ℕ) (link : Link) → IsMeantAt below trees address offset link → IsNamedLink trees link
+  pub meant_named : (address : List ℕ) (offset : ℕ) (link : Link) → IsMeantAt rules trees address offset link → IsNamedLink trees link
   meant_named address offset link (treeless _) = tt
   meant_named address offset link (at_place {tree = tree} {place = place} there at leads) =
       lead_named address tree place link there (place_there tree offset place at) leads

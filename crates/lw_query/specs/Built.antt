@@ -7,9 +7,9 @@ use Rattle.std.specs.Cmp.Lexicographic.{slice_cmp}
 use Rattle.std.specs.Ordering.{nat_cmp}
 use Rattle.std.specs.Str.{bytes_eq}
 use Rattle.std.specs.declared.cmp.Ordering.TheVariants.{Less}
-use Rattle.lw_grammar.specs.declared.grammar.Grammar.{Grammar}
+use Rattle.lw_link_rules.specs.Setting.{Setting}
 use Rattle.lw_reading.specs.Within.{StandsInText}
-use Rattle.lw_link_rules.specs.Links.{IsNumberBelow, IsTreeOfText, Texts}
+use Rattle.lw_link_rules.specs.Links.{IsTreeOfText, Texts, rules_of}
 use Rattle.lw_scoping.specs.Links.{Trees}
 use Rattle.lw_tree.specs.Parts.{Parts}
 use Rattle.lw_query.specs.Viewed.{IsLinkAnswer}
@@ -31,13 +31,13 @@ trees_seen (v ∷ views) address = if bytes_eq v.uri.now address then tree_seen 
 abbrev pub StandsAmong : List View → ℕ → List ℕ → Type 0
 StandsAmong views n address = (v : View) × Contains views v × (v.doc.0 ≡ n) × (v.uri.now ≡ address)
 
-module _ (g : Grammar) (views : List View) where
+module _ (setting : Setting) (views : List View) where
   -- one document: its tree is that of its text, and its answers are the links of its references
   pub record IsBuiltView (v : View) : Type 0 where
-    pub reads : IsTreeOfText g (Some v.text.now) (tree_seen v)
+    pub reads : IsTreeOfText setting.grammar (Some v.text.now) (tree_seen v)
     pub stands : IfSome (tree_seen v) (StandsInText v.text.now)
     pub linked : (tree : Parts) → tree_seen v ≡ Some tree →
-        AllZip (IsLinkAnswer (IsNumberBelow g) (StandsAmong views) (trees_seen views) v.uri.now tree) tree.refs v.answers.now
+        AllZip (IsLinkAnswer (rules_of setting) (StandsAmong views) (trees_seen views) v.uri.now tree) tree.refs v.answers.now
     pub treeless : tree_seen v ≡ None → v.answers.now ≡ []
 
   -- all of them, in the order of addresses, each address and each number once

@@ -9,6 +9,7 @@ use Rattle.lw_scoping.specs.Links.{Link, LinksTo, Trees}
 use Rattle.lw_tree.specs.declared.node.Reference.{Reference}
 use Rattle.lw_tree.specs.Parts.{Parts}
 use Rattle.lw_query.specs.declared.spot.Spot.{Spot}
+use Rattle.lw_scoping.specs.Rules.{Rules}
 
 -- `Stands n address`: the document of the number n stands at the address
 module _ (Stands : ℕ → List ℕ → Type 0) where
@@ -24,15 +25,15 @@ module _ (Stands : ℕ → List ℕ → Type 0) where
     pub span : spot.span ≡ m.span
 
 -- An answer for a reference: it leads where the link of the reference does.
-pub record IsLinkAnswer (below : ℕ → ℕ → Type 0) (Stands : ℕ → List ℕ → Type 0) (trees : Trees) (address : List ℕ) (tree : Parts) (r : Reference)
+pub record IsLinkAnswer (rules : Rules) (Stands : ℕ → List ℕ → Type 0) (trees : Trees) (address : List ℕ) (tree : Parts) (r : Reference)
     (answer : Answer) : Type 0 where
   pub link : Link
   pub leads : LeadsAs Stands answer link
-  pub is_link : LinksTo below trees address tree r link
+  pub is_link : LinksTo rules trees address tree r link
 
 -- The documents by number stand for trees by address: each number has one address and each address one number, the tree of a number is the one of its address,
 -- and its answers, one for each reference of that tree, are the links.
-pub record AreViewsOf (below : ℕ → ℕ → Type 0) (tree_at : ℕ → Option Parts) (answers_at : ℕ → List Answer) (Stands : ℕ → List ℕ → Type 0)
+pub record AreViewsOf (rules : Rules) (tree_at : ℕ → Option Parts) (answers_at : ℕ → List Answer) (Stands : ℕ → List ℕ → Type 0)
     (trees : Trees) : Type 0 where
   pub one_address : (n : ℕ) (address other : List ℕ) → Stands n address → Stands n other → address ≡ other
   pub one_number : (n m : ℕ) (address : List ℕ) → Stands n address → Stands m address → n ≡ m
@@ -40,5 +41,5 @@ pub record AreViewsOf (below : ℕ → ℕ → Type 0) (tree_at : ℕ → Option
   pub numbered : (address : List ℕ) (tree : Parts) → trees address ≡ Some tree → (n : ℕ) × Stands n address
   pub addressed : (n : ℕ) (tree : Parts) → tree_at n ≡ Some tree → (address : List ℕ) × Stands n address
   pub linked : (n : ℕ) (address : List ℕ) (tree : Parts) → Stands n address → tree_at n ≡ Some tree →
-      AllZip (IsLinkAnswer below Stands trees address tree) tree.refs (answers_at n)
+      AllZip (IsLinkAnswer rules Stands trees address tree) tree.refs (answers_at n)
   pub treeless : (n : ℕ) → tree_at n ≡ None → answers_at n ≡ []

@@ -1,10 +1,10 @@
 // The definition and the references of what stands at a place.
 ghost use Rattle.std.specs.Prelude.{◌≡◌, ℕ, List, Bool, None, Some, IfOk, MatchOption};
 ghost use Rattle.std.specs.List.{AllZip};
-ghost use Rattle.lw_grammar.specs.declared.grammar.Grammar.{Grammar};
+ghost use Rattle.lw_link_rules.specs.Setting.{Setting};
 ghost use Rattle.lw_places.specs.Mentions.{AreReferencesAt, IsDefinitionAt, IsMeantAt, Mention};
 ghost use Rattle.lw_index.specs.Led.{answers_in};
-ghost use Rattle.lw_link_rules.specs.Links.{IsNumberBelow};
+ghost use Rattle.lw_link_rules.specs.Links.{rules_of};
 ghost use Rattle.lw_scoping.specs.Links.{Link, Trees};
 ghost use Rattle.lw_query.specs.Spots.{place_answer};
 ghost use Rattle.lw_query.specs.Viewed.{AreViewsOf, IsMentionAt, LeadsAs};
@@ -32,8 +32,8 @@ fn answer_at<V: Views>(v: &V, doc: DocId, place: Option<Place>) -> Answer
 
 /// The node that is meant at a byte offset of a document.
 fn meant_at<V: Views>(v: &V, doc: DocId, off: u32) -> Answer
-    ensures { (g : Grammar) (trees : Trees) (address : List ℕ) → AreViewsOf (IsNumberBelow g) (V.tree_at v.now) (V.answers_at v.now) (V.Stands v.now) trees →
-        V.Stands v.now doc.0 address → (link : Link) × LeadsAs (V.Stands v.now) result link × IsMeantAt (IsNumberBelow g) trees address off link }
+    ensures { (setting : Setting) (trees : Trees) (address : List ℕ) → AreViewsOf (rules_of setting) (V.tree_at v.now) (V.answers_at v.now) (V.Stands v.now) trees →
+        V.Stands v.now doc.0 address → (link : Link) × LeadsAs (V.Stands v.now) result link × IsMeantAt (rules_of setting) trees address off link }
 {
     match v.tree(doc) {
         None => Answer::Missing,
@@ -44,9 +44,9 @@ fn meant_at<V: Views>(v: &V, doc: DocId, off: u32) -> Answer
 /// Where the name stands of what is meant at a byte offset of a document, or None where nothing is. It takes no memory and the time of
 /// [`place_at`](crate::place_at).
 pub fn definition<V: Views>(v: &V, doc: DocId, off: u32) -> Option<Spot>
-    ensures { (g : Grammar) (trees : Trees) (address : List ℕ) → AreViewsOf (IsNumberBelow g) (V.tree_at v.now) (V.answers_at v.now) (V.Stands v.now) trees →
-        V.Stands v.now doc.0 address → MatchOption result (IsDefinitionAt (IsNumberBelow g) trees address off None)
-        (λ spot. (m : Mention) × IsMentionAt (V.Stands v.now) spot m × IsDefinitionAt (IsNumberBelow g) trees address off (Some m)) }
+    ensures { (setting : Setting) (trees : Trees) (address : List ℕ) → AreViewsOf (rules_of setting) (V.tree_at v.now) (V.answers_at v.now) (V.Stands v.now) trees →
+        V.Stands v.now doc.0 address → MatchOption result (IsDefinitionAt (rules_of setting) trees address off None)
+        (λ spot. (m : Mention) × IsMentionAt (V.Stands v.now) spot m × IsDefinitionAt (rules_of setting) trees address off (Some m)) }
 {
     match meant_at(v, doc, off) {
         Answer::Missing => None,
@@ -67,11 +67,11 @@ pub fn references<V: Views>(
     off: u32,
     declaration: bool,
 ) -> Result<Option<Items<Spot>>, NoMemory>
-    ensures { (g : Grammar) (trees : Trees) (address : List ℕ) → AreViewsOf (IsNumberBelow g) (V.tree_at v.now) (V.answers_at v.now) (V.Stands v.now) trees →
+    ensures { (setting : Setting) (trees : Trees) (address : List ℕ) → AreViewsOf (rules_of setting) (V.tree_at v.now) (V.answers_at v.now) (V.Stands v.now) trees →
         ((n : ℕ) → answers_in refs.now n ≡ V.answers_at v.now n) → V.Stands v.now doc.0 address →
-        IfOk result (λ found. MatchOption found (AreReferencesAt (IsNumberBelow g) trees address off declaration None)
+        IfOk result (λ found. MatchOption found (AreReferencesAt (rules_of setting) trees address off declaration None)
         (λ spots. (mentions : List Mention) × AllZip (IsMentionAt (V.Stands v.now)) spots mentions ×
-        AreReferencesAt (IsNumberBelow g) trees address off declaration (Some mentions))) }
+        AreReferencesAt (rules_of setting) trees address off declaration (Some mentions))) }
 {
     match meant_at(v, doc, off) {
         Answer::Missing => Ok(None),

@@ -1,7 +1,7 @@
 -- What is known of documents as a build left them.
 use Rattle.std.proofs.Common.{◌≡◌, ℕ, ◌<◌, List, Option, Some, None, slice_get, length, refl, sym, ap, ◌∙◌, subst, subst₂}
 use Rattle.std.proofs.lemmas.Option.{same_Some, none-some, slice_get_within}
-use Rattle.lw_grammar.specs.declared.grammar.Grammar.{Grammar}
+use Rattle.lw_link_rules.specs.Setting.{Setting}
 use Rattle.lw_index.specs.declared.parts.Answer.{Answer}
 use Rattle.lw_index.specs.declared.parts.Answer.TheVariants.{Found, Missing}
 use Rattle.lw_index.specs.declared.parts.Target.{Target}
@@ -11,7 +11,7 @@ use Rattle.lw_query.specs.declared.view.View.{View}
 use Rattle.lw_reading.specs.Reading.{Reads}
 use Rattle.lw_reading.specs.declared.parsed.Parsed.TheVariants.{Whole}
 use Rattle.lw_link_rules.specs.Links as scope
-use Rattle.lw_link_rules.specs.Links.{AreTreesOfTexts, IsNumberBelow, IsTreeOfText}
+use Rattle.lw_link_rules.specs.Links.{AreTreesOfTexts, IsTreeOfText, rules_of}
 use Rattle.lw_scoping.specs.Links.{Link, LinksTo, own, out, nowhere}
 use Rattle.lw_scoping.specs.Firsts as first
 use Rattle.lw_scoping.specs.Symbols.{IsNamedOf}
@@ -21,9 +21,10 @@ use Rattle.lw_rename.specs.Afterwards.{AreApart}
 use Rattle.lw_rename.proofs.Listing.{all_at, at_place_of, zip_left}
 use Rattle.lw_rename.proofs.Once.{IsOnceOrNone, NoneAt, OnceAt, look, no_text_at, no_tree_at, not_less, once, once_address, once_at, once_place, one_of_number, text_at, tree_at}
 use Rattle.lw_rename.proofs.Once as place
+use Rattle.lw_scoping.specs.Rules.{Rules}
 
-pub apart_of : (g : Grammar) (views : List View) → AreBuiltViews g views → AreApart views
-apart_of g views built = record {
+pub apart_of : (setting : Setting) (views : List View) → AreBuiltViews setting views → AreApart views
+apart_of setting views built = record {
   numbers = built.apart;
   addresses = λ i j d before inside same. not_less _ _ same (built.ascending i j d before inside);
 }
@@ -37,15 +38,15 @@ module _ {Stands : ℕ → List ℕ → Type 0} where
   pub led_nowhere : (link : Link) → LeadsAs Stands Missing link → link ≡ None
   led_nowhere link missing = refl
 
-module _ (g : Grammar) (views : List View) (built : AreBuiltViews g views) where
-  pub its_view : (k : ℕ) (v : View) → slice_get views k ≡ Some v → IsBuiltView g views v
-  its_view k v at = all_at (IsBuiltView g views) views k v built.built at
+module _ (setting : Setting) (views : List View) (built : AreBuiltViews setting views) where
+  pub its_view : (k : ℕ) (v : View) → slice_get views k ≡ Some v → IsBuiltView setting views v
+  its_view k v at = all_at (IsBuiltView setting views) views k v built.built at
 
-  pub reads_at : (k : ℕ) (v : View) (tree : Parts) → slice_get views k ≡ Some v → tree_seen v ≡ Some tree → Reads g v.text.now (Whole tree)
+  pub reads_at : (k : ℕ) (v : View) (tree : Parts) → slice_get views k ≡ Some v → tree_seen v ≡ Some tree → Reads setting.grammar v.text.now (Whole tree)
   reads_at k v tree at seen = by (tree_seen v) seen (its_view k v at).reads
     where
-      by : (o : Option Parts) → o ≡ Some tree → IsTreeOfText g (Some v.text.now) o → Reads g v.text.now (Whole tree)
-      by _ same (scope.whole {tree = t} reads) = subst (λ (x : Parts). Reads g v.text.now (Whole x)) (same_Some t tree same) reads
+      by : (o : Option Parts) → o ≡ Some tree → IsTreeOfText setting.grammar (Some v.text.now) o → Reads setting.grammar v.text.now (Whole tree)
+      by _ same (scope.whole {tree = t} reads) = subst (λ (x : Parts). Reads setting.grammar v.text.now (Whole x)) (same_Some t tree same) reads
       by _ same (scope.broken _) = absurd (none-some tree same)
 
   -- the address of a number is one
@@ -53,31 +54,31 @@ module _ (g : Grammar) (views : List View) (built : AreBuiltViews g views) where
   one_standing n a b (v, has, number, address) (w, held, other, there) =
       let (i, at) = at_place_of views v has in
       let (j, behind) = at_place_of views w held in
-      let same = one_of_number views (apart_of g views built) i j v w at behind (number ∙ sym other) in
+      let same = one_of_number views (apart_of setting views built) i j v w at behind (number ∙ sym other) in
       sym address ∙ ap (λ (x : View). x.uri.now) same ∙ there
 
   -- the answer for a reference
   pub answer_at : (k : ℕ) (v : View) (tree : Parts) (i : ℕ) (r : Reference) → slice_get views k ≡ Some v → tree_seen v ≡ Some tree → slice_get tree.refs i ≡ Some r →
-      (answer : Answer) × (slice_get v.answers.now i ≡ Some answer) × IsLinkAnswer (IsNumberBelow g) (StandsAmong views) (trees_seen views) v.uri.now tree r answer
+      (answer : Answer) × (slice_get v.answers.now i ≡ Some answer) × IsLinkAnswer (rules_of setting) (StandsAmong views) (trees_seen views) v.uri.now tree r answer
   answer_at k v tree i r at seen there = zip_left _ tree.refs v.answers.now i r ((its_view k v at).linked tree seen) there
 
-  pub trees_are : AreTreesOfTexts g (texts_seen views) (trees_seen views)
-  trees_are address = by (look address views (apart_of g views built))
+  pub trees_are : AreTreesOfTexts setting.grammar (texts_seen views) (trees_seen views)
+  trees_are address = by (look address views (apart_of setting views built))
     where
-      by : IsOnceOrNone address views → IsTreeOfText g (texts_seen views address) (trees_seen views address)
-      by (place.nowhere absent) = subst₂ (IsTreeOfText g) (sym (no_text_at address views absent)) (sym (no_tree_at address views absent)) scope.no_text
+      by : IsOnceOrNone address views → IsTreeOfText setting.grammar (texts_seen views address) (trees_seen views address)
+      by (place.nowhere absent) = subst₂ (IsTreeOfText setting.grammar) (sym (no_text_at address views absent)) (sym (no_tree_at address views absent)) scope.no_text
       by (once {k = k} {v = v} is) =
-          subst₂ (IsTreeOfText g) (sym (text_at address views k v is)) (sym (tree_at address views k v is)) (its_view k v (once_place is)).reads
+          subst₂ (IsTreeOfText setting.grammar) (sym (text_at address views k v is)) (sym (tree_at address views k v is)) (its_view k v (once_place is)).reads
 
 -- a link leads to a node that is there
-pub target_within : (below : ℕ → ℕ → Type 0) (trees : List ℕ → Option Parts) (address : List ℕ) (tree : Parts) (r : Reference) (place : List ℕ × ℕ) →
-    LinksTo below trees address tree r (Some place) → trees address ≡ Some tree → (other : Parts) → trees place.0 ≡ Some other → place.1 < length other.nodes
-target_within below trees address tree r place links here other there = by (Some place) refl links
+pub target_within : (rules : Rules) (trees : List ℕ → Option Parts) (address : List ℕ) (tree : Parts) (r : Reference) (place : List ℕ × ℕ) →
+    LinksTo rules trees address tree r (Some place) → trees address ≡ Some tree → (other : Parts) → trees place.0 ≡ Some other → place.1 < length other.nodes
+target_within rules trees address tree r place links here other there = by (Some place) refl links
   where
     inside : (t : Parts) (n : ℕ) {name : List ℕ} {wanted : ℕ → Type 0} → IsNamedOf t name wanted n → n < length t.nodes
     inside t n (type, named, fits) = slice_get_within t.nodes n named.node named.there
 
-    by : (link : Link) → link ≡ Some place → LinksTo below trees address tree r link → place.1 < length other.nodes
+    by : (link : Link) → link ≡ Some place → LinksTo rules trees address tree r link → place.1 < length other.nodes
     by _ same (own {n = n} is) =
         let both = same_Some (address, n) place same in
         let where_ : tree ≡ other = same_Some tree other (sym here ∙ ap trees (ap (λ (p : List ℕ × ℕ). p.0) both) ∙ there) in

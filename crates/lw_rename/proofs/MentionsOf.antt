@@ -9,7 +9,7 @@ use Rattle.std.proofs.lemmas.Bool.Decides.{Decides-eqb, Decides-ltb}
 use Rattle.std.proofs.lemmas.List.Elements.{Contains-append_cases, Contains-append_left, Contains-append_right}
 use Rattle.std.proofs.lemmas.Option.{same_Some, none-some}
 use Rattle.lw_base.specs.declared.token.Span.{Span}
-use Rattle.lw_grammar.specs.declared.grammar.Grammar.{Grammar}
+use Rattle.lw_link_rules.specs.Setting.{Setting}
 use Rattle.lw_index.specs.declared.parts.Answer.{Answer}
 use Rattle.lw_index.specs.declared.parts.Answer.TheVariants.{Found, Missing}
 use Rattle.lw_index.specs.declared.parts.Target.{Target}
@@ -18,7 +18,7 @@ use Rattle.lw_places.specs.Mentions as asked
 use Rattle.lw_query.specs.Built.{AreBuiltViews, StandsAmong, trees_seen, tree_seen}
 use Rattle.lw_query.specs.Viewed.{IsLinkAnswer}
 use Rattle.lw_query.specs.declared.view.View.{View}
-use Rattle.lw_link_rules.specs.Links.{IsNumberBelow}
+use Rattle.lw_link_rules.specs.Links.{rules_of}
 use Rattle.lw_scoping.proofs.Once.{one_target}
 use Rattle.lw_scoping.specs.Links.{LinksTo}
 use Rattle.lw_tree.specs.declared.node.Reference.{Reference}
@@ -138,17 +138,17 @@ name_there v tree target s text number inside named =
     both : {a b : Bool} → a ≡ true → b ≡ true → (a && b) ≡ true
     both {a} {b} one other = ap (λ (t : Bool). t && b) one ∙ other
 
-module _ (g : Grammar) (views : List View) (built : AreBuiltViews g views) (address : List ℕ) (offset : ℕ) (target : Target)
-    (is : IsTargetAt g views address offset target) (spans : List (List Span)) (all : AreAllSpans target views spans) where
+module _ (setting : Setting) (views : List View) (built : AreBuiltViews setting views) (address : List ℕ) (offset : ℕ) (target : Target)
+    (is : IsTargetAt setting views address offset target) (spans : List (List Span)) (all : AreAllSpans target views spans) where
   abbrev Declares : Mention → Type 0
-  Declares m = IsMentionOf (IsNumberBelow g) (trees_seen views) true (is.home, target.node.0) m
+  Declares m = IsMentionOf (rules_of setting) (trees_seen views) true (is.home, target.node.0) m
 
   tree_here : (k : ℕ) (v : View) → slice_get views k ≡ Some v → trees_seen views v.uri.now ≡ tree_seen v
-  tree_here k v at = tree_at v.uri.now views k v (once_at views (apart_of g views built) k v at)
+  tree_here k v at = tree_at v.uri.now views k v (once_at views (apart_of setting views built) k v at)
 
   -- the document at an address with a tree
   found_at : (a : List ℕ) (tree : Parts) → trees_seen views a ≡ Some tree → (k : ℕ) × (v : View) × (slice_get views k ≡ Some v) × (v.uri.now ≡ a) × (tree_seen v ≡ Some tree)
-  found_at a tree there = by (look a views (apart_of g views built))
+  found_at a tree there = by (look a views (apart_of setting views built))
     where
       by : IsOnceOrNone a views → (k : ℕ) × (v : View) × (slice_get views k ≡ Some v) × (v.uri.now ≡ a) × (tree_seen v ≡ Some tree)
       by (place.nowhere absent) = absurd (none-some tree (sym (no_tree_at a views absent) ∙ there))
@@ -156,23 +156,23 @@ module _ (g : Grammar) (views : List View) (built : AreBuiltViews g views) (addr
 
   span_told : (k : ℕ) (v : View) (s : Span) → slice_get views k ≡ Some v → IsSpanTo target v s → Declares (mention_at v.uri.now s)
   span_told k v s at (used {tree = t} seen cited) =
-      let (answer, there, leads) = answer_at g views built k v t cited.number cited.r at seen cited.there in
+      let (answer, there, leads) = answer_at setting views built k v t cited.number cited.r at seen cited.there in
       let same : answer ≡ Found target = same_Some answer (Found target) (sym there ∙ cited.leads) in
-      let led = subst (λ (a : Answer). IsLinkAnswer (IsNumberBelow g) (StandsAmong views) (trees_seen views) v.uri.now t cited.r a) same leads in
+      let led = subst (λ (a : Answer). IsLinkAnswer (rules_of setting) (StandsAmong views) (trees_seen views) v.uri.now t cited.r a) same leads in
       let (home, stands, link) = led_to target led.link led.leads in
-      let home_is : home ≡ is.home = one_standing g views built target.doc.0 home is.home stands is.stands in
+      let home_is : home ≡ is.home = one_standing setting views built target.doc.0 home is.home stands is.stands in
       asked.used (record {
         tree = t;
         is_tree = tree_here k v at ∙ seen;
         r = cited.r;
         among = is_among t.refs cited.number cited.r cited.there;
-        leads = subst (LinksTo (IsNumberBelow g) (trees_seen views) v.uri.now t cited.r) (link ∙ ap (λ (a : List ℕ). Some (a, target.node.0)) home_is) led.is_link;
+        leads = subst (LinksTo (rules_of setting) (trees_seen views) v.uri.now t cited.r) (link ∙ ap (λ (a : List ℕ). Some (a, target.node.0)) home_is) led.is_link;
         here = cited.here;
       })
   span_told k v s at (declared {tree = t} seen named) =
       let (number, text, name) = named_here v t target s named in
       let here : v.uri.now ≡ is.home =
-      one_standing g views built target.doc.0 v.uri.now is.home (v, is_among views k v at, number, refl) is.stands in
+      one_standing setting views built target.doc.0 v.uri.now is.home (v, is_among views k v at, number, refl) is.stands in
       asked.declared refl (record {
         tree = t;
         is_tree = ap (trees_seen views) (sym here) ∙ tree_here k v at ∙ seen;
@@ -186,21 +186,21 @@ module _ (g : Grammar) (views : List View) (built : AreBuiltViews g views) (addr
       let (w, held, other, there) = is.stands in
       let (i, at) = at_place_of views v has in
       let (j, behind) = at_place_of views w held in
-      let same = one_of_address views (apart_of g views built) i j v w at behind (home ∙ sym there) in
+      let same = one_of_address views (apart_of setting views built) i j v w at behind (home ∙ sym there) in
       let doc : t.doc.0 ≡ target.doc.0 = sym number ∙ ap (λ (x : View). x.doc.0) same ∙ other in
       λ i. record { doc = record { 0 = doc i }; node = record { 0 = node i } }
 
-  leads_as : (r : Reference) (k : ℕ) (v : View) (tree : Parts) (answer : Answer) → LinksTo (IsNumberBelow g) (trees_seen views) v.uri.now tree r (Some (is.home, target.node.0)) →
-      IsLinkAnswer (IsNumberBelow g) (StandsAmong views) (trees_seen views) v.uri.now tree r answer → answer ≡ Found target
+  leads_as : (r : Reference) (k : ℕ) (v : View) (tree : Parts) (answer : Answer) → LinksTo (rules_of setting) (trees_seen views) v.uri.now tree r (Some (is.home, target.node.0)) →
+      IsLinkAnswer (rules_of setting) (StandsAmong views) (trees_seen views) v.uri.now tree r answer → answer ≡ Found target
   leads_as r k v tree (Found t) links leads =
       let (home, stands, link) = led_to t leads.link leads.leads in
       let both = same_Some (home, t.node.0) (is.home, target.node.0)
-      (sym link ∙ one_target (IsNumberBelow g) (trees_seen views) v.uri.now tree r leads.link (Some (is.home, target.node.0)) leads.is_link links) in
+      (sym link ∙ one_target (rules_of setting) (trees_seen views) v.uri.now tree r leads.link (Some (is.home, target.node.0)) leads.is_link links) in
       ap Found (answer_is t (subst (StandsAmong views t.doc.0) (ap (λ (p : List ℕ × ℕ). p.0) both) stands) (ap (λ (p : List ℕ × ℕ). p.1) both))
   leads_as r k v tree Missing links leads =
       absurd (none-some (is.home, target.node.0)
       (sym (led_nowhere leads.link leads.leads)
-      ∙ one_target (IsNumberBelow g) (trees_seen views) v.uri.now tree r leads.link (Some (is.home, target.node.0)) leads.is_link links))
+      ∙ one_target (rules_of setting) (trees_seen views) v.uri.now tree r leads.link (Some (is.home, target.node.0)) leads.is_link links))
 
   put_in : (k : ℕ) (v : View) (m : Mention) → slice_get views k ≡ Some v → m.address ≡ v.uri.now → IsSpanTo target v m.span → Contains (mentions_over views spans) m
   put_in k v m at here to =
@@ -212,15 +212,15 @@ module _ (g : Grammar) (views : List View) (built : AreBuiltViews g views) (addr
   from_mention m (asked.used cited) =
       let (k, v, at, here, seen) = found_at m.address cited.tree cited.is_tree in
       let (i, ref) = at_place_of cited.tree.refs cited.r cited.among in
-      let (answer, there, leads) = answer_at g views built k v cited.tree i cited.r at seen ref in
-      let links = subst (λ (a : List ℕ). LinksTo (IsNumberBelow g) (trees_seen views) a cited.tree cited.r (Some (is.home, target.node.0))) (sym here) cited.leads in
+      let (answer, there, leads) = answer_at setting views built k v cited.tree i cited.r at seen ref in
+      let links = subst (λ (a : List ℕ). LinksTo (rules_of setting) (trees_seen views) a cited.tree cited.r (Some (is.home, target.node.0))) (sym here) cited.leads in
       put_in k v m at (sym here)
       (used seen (record { number = i; r = cited.r; there = ref; leads = there ∙ ap Some (leads_as cited.r k v cited.tree answer links leads); here = cited.here }))
   from_mention m (asked.declared _ name) =
       let (k, v, at, here, seen) = found_at is.home name.tree name.is_tree in
       let (w, held, other, there) = is.stands in
       let (j, behind) = at_place_of views w held in
-      let same = one_of_address views (apart_of g views built) k j v w at behind (here ∙ sym there) in
+      let same = one_of_address views (apart_of setting views built) k j v w at behind (here ∙ sym there) in
       let number : v.doc.0 ≡ target.doc.0 = ap (λ (x : View). x.doc.0) same ∙ other in
       put_in k v m at (name.here ∙ sym here)
       (declared seen (name_there v name.tree target m.span name.text number (is.within name.tree name.is_tree) name.named))
@@ -231,7 +231,7 @@ module _ (g : Grammar) (views : List View) (built : AreBuiltViews g views) (addr
       let are = zip_at (AreSpansOf target) views spans one.place one.v one.its all one.view one.list in
       subst (λ (a : List ℕ). Declares (mention_at a m.span)) (sym one.address) (span_told one.place one.v m.span one.view ((are.exact m.span).0 one.among))
 
-  pub are_mentions : AreMentionsOf (IsNumberBelow g) (trees_seen views) true (is.home, target.node.0) (mentions_over views spans)
+  pub are_mentions : AreMentionsOf (rules_of setting) (trees_seen views) true (is.home, target.node.0) (mentions_over views spans)
   are_mentions = record {
     exact = λ m. (to_mention m, from_mention m);
     ordered = mentions_ordered target views spans built.ascending all;

@@ -1,7 +1,7 @@
 -- Where the references of one document lead, beside where they led.
 use Rattle.std.proofs.Common.{◌≡◌, ℕ, ◌<◌, List, [], ◌∷◌, Some, slice_get, map, refl, sym, ap, ap₂, ◌∙◌, subst}
 use Rattle.lw_base.specs.declared.token.Span.{Span}
-use Rattle.lw_grammar.specs.declared.grammar.Grammar.{Grammar}
+use Rattle.lw_link_rules.specs.Setting.{Setting}
 use Rattle.lw_index.specs.Indexed.{Indexed}
 use Rattle.lw_index.specs.declared.parts.Answer.{Answer}
 use Rattle.lw_link.specs.Indexed.{link_of}
@@ -19,16 +19,16 @@ mapped_alike : {X Y : Type 0} (f h : X → Y) → ((x : X) → f x ≡ h x) → 
 mapped_alike f h same [] = refl
 mapped_alike f h same (x ∷ xs) = ap₂ (λ y ys. y ∷ ys) (same x) (mapped_alike f h same xs)
 
-module _ (g : Grammar) (views : List View) (trees : Trees) (v : View) (tree : Parts) (index : Indexed)
+module _ (setting : Setting) (views : List View) (trees : Trees) (v : View) (tree : Parts) (index : Indexed)
     (alike : (answer : Answer) → link_among views answer ≡ link_of index answer) (after : List Answer)
-    (leads : HasLinks g trees v.uri.now tree (map (link_of index) after)) where
+    (leads : HasLinks setting trees v.uri.now tree (map (link_of index) after)) where
   now : map (link_among views) after ≡ map (link_of index) after
   now = mapped_alike (link_among views) (link_of index) alike after
 
   module _ (old : Parts) (seen : tree_seen v ≡ Some old) (i : ℕ) (r : Reference) (ref : slice_get old.refs i ≡ Some r) where
     pub rebound_in : {span : Span} {was is_now : Link} (fault : RenameFault) → TellsRebound v.uri.now i span was is_now fault → r.span ≡ span →
         slice_get (map (link_among views) v.answers.now) i ≡ Some was → slice_get (map (link_among views) after) i ≡ Some is_now →
-        IsFirstOther (map (link_among views) v.answers.now) (map (link_among views) after) i → IsReboundIn g views trees v tree fault
+        IsFirstOther (map (link_among views) v.answers.now) (map (link_among views) after) i → IsReboundIn setting views trees v tree fault
     rebound_in {span = span} {was = was} {is_now = is_now} fault tells here was_led is_led (before, behind, other) =
         let led : List Link = map (link_among views) v.answers.now in
         let from = one_at led i before was other.led was_led in

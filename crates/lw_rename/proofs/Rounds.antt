@@ -4,7 +4,7 @@ use Rattle.std.specs.Prelude.{◌⊎◌}
 use Rattle.std.proofs.lemmas.Bool.{cases_lt}
 use Rattle.std.proofs.lemmas.Option.{none-some}
 use Rattle.lw_base.specs.declared.token.Span.{Span}
-use Rattle.lw_grammar.specs.declared.grammar.Grammar.{Grammar}
+use Rattle.lw_link_rules.specs.Setting.{Setting}
 use Rattle.lw_query.specs.Built.{tree_seen}
 use Rattle.lw_query.specs.declared.view.View.{View}
 use Rattle.lw_scoping.specs.Links.{Trees}
@@ -34,13 +34,13 @@ pub told_or : (P : RenameFault → Type 0) (f r : RenameFault) → (r ≡ NoMemo
 told_or P f r (inl none) is = inl none
 told_or P f r (inr same) is = inr (subst P (sym same) is)
 
-module _ (g : Grammar) (new : List ℕ) (views : List View) (spans : List (List Span)) where
+module _ (setting : Setting) (new : List ℕ) (views : List View) (spans : List (List Span)) where
   pub again_more : (trees : List (Option Parts)) (t : Option Parts) (i : ℕ) (v : View) (s : List Span) → length trees ≡ i → slice_get views i ≡ Some v →
-      slice_get spans i ≡ Some s → IsAgain g new v s t → AreAgain g new views spans trees → AreAgain g new views spans (trees ++ t ∷ [])
+      slice_get spans i ≡ Some s → IsAgain setting new v s t → AreAgain setting new views spans trees → AreAgain setting new views spans (trees ++ t ∷ [])
   again_more trees t i v s long at there is are = record { each = each }
     where
       each : (k : ℕ) (w : View) (u : List Span) → k < length (trees ++ t ∷ []) → slice_get views k ≡ Some w → slice_get spans k ≡ Some u →
-          (tree : Option Parts) × (slice_get (trees ++ t ∷ []) k ≡ Some tree) × IsAgain g new w u tree
+          (tree : Option Parts) × (slice_get (trees ++ t ∷ []) k ≡ Some tree) × IsAgain setting new w u tree
       each k w u below here its = elim (cases_lt k (length trees)) [
         | inl lower ↦ let (tree, found, one) = are.each k w u lower here its in (tree, stays_before trees (t ∷ []) k tree found, one)
         | inr up ↦
@@ -51,12 +51,12 @@ module _ (g : Grammar) (new : List ℕ) (views : List View) (spans : List (List 
             let list : s ≡ u = one_at spans k s u (ap (slice_get spans) (sym number) ∙ there) its in (
               t,
               ap (slice_get (trees ++ t ∷ [])) (sym place) ∙ put_last trees t,
-              subst (λ (x : View). IsAgain g new x u t) view (subst (λ (x : List Span). IsAgain g new v x t) list is),
+              subst (λ (x : View). IsAgain setting new x u t) view (subst (λ (x : List Span). IsAgain setting new v x t) list is),
             )
       ]
 
   pub spoiled_first : (trees : List (Option Parts)) (i : ℕ) (v : View) (s : List Span) (fault : RenameFault) → length trees ≡ i → slice_get views i ≡ Some v →
-      slice_get spans i ≡ Some s → IsSpoiled g new v s fault → AreAgain g new views spans trees → IsFirstSpoiled g new views spans fault
+      slice_get spans i ≡ Some s → IsSpoiled setting new v s fault → AreAgain setting new views spans trees → IsFirstSpoiled setting new views spans fault
   spoiled_first trees i v s fault long at there is are = record {
     place = i;
     v = v;
@@ -69,22 +69,22 @@ module _ (g : Grammar) (new : List ℕ) (views : List View) (spans : List (List 
     again = are;
   }
 
-module _ (g : Grammar) (views : List View) (trees : Trees) (news : List (Option Parts)) where
+module _ (setting : Setting) (views : List View) (trees : Trees) (news : List (Option Parts)) where
   pub stay_more : (i : ℕ) (v : View) (t : Option Parts) → StandsWith views news i v t →
-      ((tree : Parts) → later t (tree_seen v) ≡ Some tree → StayIn g views trees v tree) → StayAmongFirst g views trees news i → StayAmongFirst g views trees news (i + 1)
+      ((tree : Parts) → later t (tree_seen v) ≡ Some tree → StayIn setting views trees v tree) → StayAmongFirst setting views trees news i → StayAmongFirst setting views trees news (i + 1)
   stay_more i v t at is are k w u tree below among seen = elim (cases_lt k i) [
     | inl lower ↦ are k w u tree lower among seen
     | inr up ↦
         let number : i ≡ k = omega (arith, below, up) in
         let view : v ≡ w = one_at views k v w (ap (slice_get views) (sym number) ∙ at.view) among.view in
         let new_tree : t ≡ u = one_at news k t u (ap (slice_get news) (sym number) ∙ at.new) among.new in
-        subst (λ (x : View). StayIn g views trees x tree) view
+        subst (λ (x : View). StayIn setting views trees x tree) view
         (is tree (ap (λ (x : Option Parts). later x (tree_seen v)) new_tree ∙ ap (λ (x : View). later u (tree_seen x)) view ∙ seen))
   ]
 
   pub rebound_first : (i : ℕ) (v : View) (t : Option Parts) (tree : Parts) (fault : RenameFault) → StandsWith views news i v t → later t (tree_seen v) ≡ Some tree →
-      IsReboundIn g views trees v tree fault → StayAmongFirst g views trees news i → IsFirstRebound g views trees news fault
+      IsReboundIn setting views trees v tree fault → StayAmongFirst setting views trees news i → IsFirstRebound setting views trees news fault
   rebound_first i v t tree fault at seen is are = record { place = i; v = v; t = t; tree = tree; among = at; seen = seen; rebound = is; before = are }
 
-  pub stay_all : (i : ℕ) → length views ≤ i → StayAmongFirst g views trees news i → StayAmongFirst g views trees news (length views)
+  pub stay_all : (i : ℕ) → length views ≤ i → StayAmongFirst setting views trees news i → StayAmongFirst setting views trees news (length views)
   stay_all i past are k v t tree below = are k v t tree (omega (arith, past, below))

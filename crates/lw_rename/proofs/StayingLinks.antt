@@ -7,7 +7,7 @@ use Rattle.std.specs.declared.cmp.Ordering.TheVariants.{Less}
 use Rattle.std.proofs.lemmas.Bool.{cases_lt}
 use Rattle.std.proofs.lemmas.Option.{none-some, slice_get_within}
 use Rattle.lw_base.specs.declared.token.Span.{Span}
-use Rattle.lw_grammar.specs.declared.grammar.Grammar.{Grammar}
+use Rattle.lw_link_rules.specs.Setting.{Setting}
 use Rattle.lw_index.specs.declared.parts.Answer.{Answer}
 use Rattle.lw_index.specs.declared.parts.Answer.TheVariants.{Found, Missing}
 use Rattle.lw_index.specs.declared.parts.Target.{Target}
@@ -17,7 +17,7 @@ use Rattle.lw_query.specs.declared.view.View.{View}
 use Rattle.lw_places.specs.Renamed.{IsRebound, LinksStay, Refusal}
 use Rattle.lw_places.specs.Renamed as rename
 use Rattle.lw_places.specs.Replacing.{renamed_texts}
-use Rattle.lw_link_rules.specs.Links.{AreLinks, IsNumberBelow, Texts}
+use Rattle.lw_link_rules.specs.Links.{AreLinks, Texts, rules_of}
 use Rattle.lw_scoping.specs.Links.{Link, LinksTo, treeless, whole}
 use Rattle.lw_tree.specs.declared.node.Reference.{Reference}
 use Rattle.lw_tree.specs.Parts.{Parts}
@@ -36,50 +36,50 @@ use Rattle.lw_rename.proofs.Listing.{at_place_of, one_at, pair_at, zip_left, zip
 use Rattle.lw_rename.proofs.Once.{IsOnceOrNone, NoneAt, OnceAt, addresses_strict, later_at, look, no_later_at, no_tree_at, not_less, once_address, once_at, once_place, tree_at}
 use Rattle.lw_rename.proofs.Once as place
 
-module _ (g : Grammar) (new : List ℕ) (views : List View) (built : AreBuiltViews g views) (target : Target) (spans : List (List Span))
-    (all : AreAllSpans target views spans) (trees : List (Option Parts)) (are : AreAllAgain g new views spans trees) where
+module _ (setting : Setting) (new : List ℕ) (views : List View) (built : AreBuiltViews setting views) (target : Target) (spans : List (List Span))
+    (all : AreAllSpans target views spans) (trees : List (Option Parts)) (are : AreAllAgain setting new views spans trees) where
   abbrev After : Texts
   After = renamed_texts new (mentions_over views spans) (texts_seen views)
 
   abbrev Stay : List ℕ → Type 0
-  Stay address = LinksStay g (texts_seen views) After address
+  Stay address = LinksStay setting (texts_seen views) After address
 
   -- ---- before
 
   old_link : (k : ℕ) (v : View) (tree : Parts) (r : Reference) (answer : Answer) →
-      IsLinkAnswer (IsNumberBelow g) (StandsAmong views) (trees_seen views) v.uri.now tree r answer →
-      LinksTo (IsNumberBelow g) (trees_seen views) v.uri.now tree r (link_among views answer)
+      IsLinkAnswer (rules_of setting) (StandsAmong views) (trees_seen views) v.uri.now tree r answer →
+      LinksTo (rules_of setting) (trees_seen views) v.uri.now tree r (link_among views answer)
   old_link k v tree r (Found t) is =
       let (home, (w, has, number, address), link) = led_to t is.link is.leads in
       let (j, at) = at_place_of views w has in
       let same : home ≡ address_among views t.doc.0 =
-      sym address ∙ sym (its_address views (apart_of g views built) j w at) ∙ ap (address_among views) number in
-      subst (LinksTo (IsNumberBelow g) (trees_seen views) v.uri.now tree r) (link ∙ ap (λ (a : List ℕ). Some (a, t.node.0)) same) is.is_link
+      sym address ∙ sym (its_address views (apart_of setting views built) j w at) ∙ ap (address_among views) number in
+      subst (LinksTo (rules_of setting) (trees_seen views) v.uri.now tree r) (link ∙ ap (λ (a : List ℕ). Some (a, t.node.0)) same) is.is_link
   old_link k v tree r Missing is =
-      subst (LinksTo (IsNumberBelow g) (trees_seen views) v.uri.now tree r) (led_nowhere is.link is.leads) is.is_link
+      subst (LinksTo (rules_of setting) (trees_seen views) v.uri.now tree r) (led_nowhere is.link is.leads) is.is_link
 
   old_links : (k : ℕ) (v : View) (tree : Parts) → slice_get views k ≡ Some v → tree_seen v ≡ Some tree →
-      AllZip (LinksTo (IsNumberBelow g) (trees_seen views) v.uri.now tree) tree.refs (map (link_among views) v.answers.now)
+      AllZip (LinksTo (rules_of setting) (trees_seen views) v.uri.now tree) tree.refs (map (link_among views) v.answers.now)
   old_links k v tree at seen =
-      zip_mapped (IsLinkAnswer (IsNumberBelow g) (StandsAmong views) (trees_seen views) v.uri.now tree) (LinksTo (IsNumberBelow g) (trees_seen views) v.uri.now tree)
-      (link_among views) (old_link k v tree) tree.refs v.answers.now ((its_view g views built k v at).linked tree seen)
+      zip_mapped (IsLinkAnswer (rules_of setting) (StandsAmong views) (trees_seen views) v.uri.now tree) (LinksTo (rules_of setting) (trees_seen views) v.uri.now tree)
+      (link_among views) (old_link k v tree) tree.refs v.answers.now ((its_view setting views built k v at).linked tree seen)
 
   were_links : (k : ℕ) (v : View) (tree : Parts) → slice_get views k ≡ Some v → tree_seen v ≡ Some tree →
-      AreLinks g (texts_seen views) v.uri.now (map (link_among views) v.answers.now)
+      AreLinks setting (texts_seen views) v.uri.now (map (link_among views) v.answers.now)
   were_links k v tree at seen = record {
     trees = trees_seen views;
-    are_trees = trees_are g views built;
-    are_links = whole (tree_at v.uri.now views k v (once_at views (apart_of g views built) k v at) ∙ seen) (old_links k v tree at seen);
+    are_trees = trees_are setting views built;
+    are_links = whole (tree_at v.uri.now views k v (once_at views (apart_of setting views built) k v at) ∙ seen) (old_links k v tree at seen);
   }
 
   -- ---- after
 
   are_links_after : (k : ℕ) (v : View) (t : Option Parts) (tree : Parts) (links : List Link) → StandsWith views trees k v t → later t (tree_seen v) ≡ Some tree →
-      AllZip (LinksTo (IsNumberBelow g) (trees_after views trees) v.uri.now tree) tree.refs links → AreLinks g After v.uri.now links
+      AllZip (LinksTo (rules_of setting) (trees_after views trees) v.uri.now tree) tree.refs links → AreLinks setting After v.uri.now links
   are_links_after k v t tree links at seen leads = record {
     trees = trees_after views trees;
-    are_trees = trees_again g new views built target spans all trees are;
-    are_links = whole (later_at v.uri.now views trees k v t (once_at views (apart_of g views built) k v at.view) at.new ∙ seen) leads;
+    are_trees = trees_again setting new views built target spans all trees are;
+    are_links = whole (later_at v.uri.now views trees k v t (once_at views (apart_of setting views built) k v at.view) at.new ∙ seen) leads;
   }
 
   -- ---- neither
@@ -87,8 +87,8 @@ module _ (g : Grammar) (new : List ℕ) (views : List View) (built : AreBuiltVie
   no_links : (address : List ℕ) → trees_seen views address ≡ None → trees_after views trees address ≡ None → Stay address
   no_links address was is = (
     [],
-    record { trees = trees_seen views; are_trees = trees_are g views built; are_links = treeless was },
-    record { trees = trees_after views trees; are_trees = trees_again g new views built target spans all trees are; are_links = treeless is },
+    record { trees = trees_seen views; are_trees = trees_are setting views built; are_links = treeless was },
+    record { trees = trees_after views trees; are_trees = trees_again setting new views built target spans all trees are; are_links = treeless is },
   )
 
   -- the new tree of a document, and that there is one only where there was one
@@ -106,12 +106,12 @@ module _ (g : Grammar) (new : List ℕ) (views : List View) (built : AreBuiltVie
       let (t, new_tree, is) = are.again.each k v s (omega (arith, long, inside)) at there in
       record { t = t; among = record { view = at; new = new_tree }; was = was s t is; none = none s t is }
     where
-      was : (s : List Span) (t : Option Parts) → IsAgain g new v s t → (tree : Parts) → later t (tree_seen v) ≡ Some tree → (old : Parts) × (tree_seen v ≡ Some old)
+      was : (s : List Span) (t : Option Parts) → IsAgain setting new v s t → (tree : Parts) → later t (tree_seen v) ≡ Some tree → (old : Parts) × (tree_seen v ≡ Some old)
       was s _ (read.treeless _) tree seen = (tree, seen)
       was s _ (untouched _) tree seen = (tree, seen)
       was s _ (kept {tree = old} there _ _) tree seen = (old, there)
 
-      none : (s : List Span) (t : Option Parts) → IsAgain g new v s t → tree_seen v ≡ None → later t (tree_seen v) ≡ None
+      none : (s : List Span) (t : Option Parts) → IsAgain setting new v s t → tree_seen v ≡ None → later t (tree_seen v) ≡ None
       none s _ (read.treeless _) absent = absent
       none s _ (untouched _) absent = absent
       none s _ (kept {tree = old} there _ _) absent = absurd (none-some old (sym absent ∙ there))
@@ -121,27 +121,27 @@ module _ (g : Grammar) (new : List ℕ) (views : List View) (built : AreBuiltVie
   some_later (Some tree) old = (tree, refl)
 
   stays_at : (k : ℕ) (v : View) → slice_get views k ≡ Some v →
-      ((t : Option Parts) (tree : Parts) → StandsWith views trees k v t → later t (tree_seen v) ≡ Some tree → StayIn g views (trees_after views trees) v tree) →
+      ((t : Option Parts) (tree : Parts) → StandsWith views trees k v t → later t (tree_seen v) ≡ Some tree → StayIn setting views (trees_after views trees) v tree) →
       Stay v.uri.now
   stays_at k v at stay = by (with_ k v at) (tree_seen v) refl
     where
       by : IsWith k v → (o : Option Parts) → tree_seen v ≡ o → Stay v.uri.now
       by it None absent =
-          let once = once_at views (apart_of g views built) k v at in
+          let once = once_at views (apart_of setting views built) k v at in
           no_links v.uri.now (tree_at v.uri.now views k v once ∙ absent) (later_at v.uri.now views trees k v it.t once it.among.new ∙ it.none absent)
       by it (Some old) seen =
           let (tree, there) = some_later it.t old in
           let has : later it.t (tree_seen v) ≡ Some tree = ap (later it.t) seen ∙ there in
           let one = stay it.t tree it.among has in (
             one.links,
-            subst (AreLinks g (texts_seen views) v.uri.now) one.same (were_links k v old at seen),
+            subst (AreLinks setting (texts_seen views) v.uri.now) one.same (were_links k v old at seen),
             are_links_after k v it.t tree one.links it.among has one.leads,
           )
 
   -- ---- all of them
 
-  pub all_stay : StayAmongFirst g views (trees_after views trees) trees (length views) → (address : List ℕ) → Stay address
-  all_stay stay address = by (look address views (apart_of g views built))
+  pub all_stay : StayAmongFirst setting views (trees_after views trees) trees (length views) → (address : List ℕ) → Stay address
+  all_stay stay address = by (look address views (apart_of setting views built))
     where
       by : IsOnceOrNone address views → Stay address
       by (place.nowhere absent) = no_links address (no_tree_at address views absent) (no_later_at address views trees absent)
@@ -157,7 +157,7 @@ module _ (g : Grammar) (new : List ℕ) (views : List View) (built : AreBuiltVie
     pub before : Link
     pub behind : Link
     pub tells : TellsRefusal fault (rename.Rebound address i before behind)
-    pub is : IsRebound g (texts_seen views) After address i before behind
+    pub is : IsRebound setting (texts_seen views) After address i before behind
 
   comes_first : (k j : ℕ) (v w : View) → slice_get views k ≡ Some v → slice_get views j ≡ Some w → slice_cmp nat_cmp v.uri.now w.uri.now ≡ Less → k < j
   comes_first k j v w at there less = elim (cases_lt k j) [
@@ -174,7 +174,7 @@ module _ (g : Grammar) (new : List ℕ) (views : List View) (built : AreBuiltVie
     ]
   ]
 
-  pub first_rebound : (fault : RenameFault) → IsFirstRebound g views (trees_after views trees) trees fault → IsReboundAt fault
+  pub first_rebound : (fault : RenameFault) → IsFirstRebound setting views (trees_after views trees) trees fault → IsReboundAt fault
   first_rebound fault is =
       let one = is.rebound in
       let (old, was) = (with_ is.place is.v is.among.view).was is.tree
@@ -200,7 +200,7 @@ module _ (g : Grammar) (new : List ℕ) (views : List View) (built : AreBuiltVie
       }
     where
       others : (a : List ℕ) → slice_cmp nat_cmp a is.v.uri.now ≡ Less → Stay a
-      others a less = by (look a views (apart_of g views built))
+      others a less = by (look a views (apart_of setting views built))
         where
           by : IsOnceOrNone a views → Stay a
           by (place.nowhere absent) = no_links a (no_tree_at a views absent) (no_later_at a views trees absent)

@@ -6,7 +6,7 @@ use Rattle.std.proofs.lemmas.List.Elements.{All-append, All-cons, All-nil, Conta
 use Rattle.lw_base.specs.declared.numbers.PropId.{PropId}
 use Rattle.lw_base.specs.declared.numbers.RefId.{RefId}
 use Rattle.lw_base.specs.declared.token.Span.{Span}
-use Rattle.lw_grammar.specs.declared.grammar.Grammar.{Grammar}
+use Rattle.lw_link_rules.specs.Setting.{Setting}
 use Rattle.lw_index.specs.declared.parts.Target.{Target}
 use Rattle.lw_query.specs.Built.{AreBuiltViews, tree_seen}
 use Rattle.lw_query.specs.declared.view.View.{View}
@@ -64,9 +64,9 @@ files_from whole (v ∷ views) (s ∷ spans) each =
     one (t ∷ s) (has, all) =
         All-cons (IsFileIn whole) _ [] (record { v = v; among = has; address = refl; within = all }) (All-nil (IsFileIn whole))
 
-module _ (g : Grammar) (views : List View) (built : AreBuiltViews g views) where
+module _ (setting : Setting) (views : List View) (built : AreBuiltViews setting views) where
   stands_at : (k : ℕ) (v : View) (tree : Parts) → slice_get views k ≡ Some v → tree_seen v ≡ Some tree → StandsInText v.text.now tree
-  stands_at k v tree at seen = subst (λ (o : Option Parts). IfSome o (StandsInText v.text.now)) seen (its_view g views built k v at).stands
+  stands_at k v tree at seen = subst (λ (o : Option Parts). IfSome o (StandsInText v.text.now)) seen (its_view setting views built k v at).stands
 
   span_in : (target : Target) (k : ℕ) (v : View) (s : Span) → slice_get views k ≡ Some v → IsSpanTo target v s → IsInText v.text.now s
   span_in target k v s at (used {tree = tree} seen cited) =
@@ -96,16 +96,16 @@ module _ (g : Grammar) (views : List View) (built : AreBuiltViews g views) where
         (all_at (λ (r : Reference). IsInText v.text.now r.span) is.tree.refs i.0 is.r (stands_at k v is.tree at is.seen).refs is.there);
   }
 
-  fault_in : (new : List ℕ) (spans : List (List Span)) (fault : RenameFault) → StandsAgainst g new views spans fault → IsFaultIn views fault
+  fault_in : (new : List ℕ) (spans : List (List Span)) (fault : RenameFault) → StandsAgainst setting new views spans fault → IsFaultIn views fault
   fault_in new spans fault (spoiled first) = by fault first.spoiled.spoils
     where
-      by : {address text : List ℕ} {tree : Parts} (f : RenameFault) → Spoils g address text tree f → IsFaultIn views f
+      by : {address text : List ℕ} {tree : Parts} (f : RenameFault) → Spoils setting address text tree f → IsFaultIn views f
       by _ (unreadable _) = tt
       by _ (reshaped _ _ _) = tt
   fault_in new spans fault (rebound again first) =
       let one = first.rebound in
       subst (IsFaultIn views) (sym one.told) (reference_at first.place first.v one.reference one.span first.among.view one.stood)
 
-  pub told_in : (new : List ℕ) (spans : List (List Span)) (fault : RenameFault) → (fault ≡ NoMemory) ⊎ StandsAgainst g new views spans fault → IsFaultIn views fault
+  pub told_in : (new : List ℕ) (spans : List (List Span)) (fault : RenameFault) → (fault ≡ NoMemory) ⊎ StandsAgainst setting new views spans fault → IsFaultIn views fault
   told_in new spans fault (inl none) = subst (IsFaultIn views) (sym none) tt
   told_in new spans fault (inr against) = fault_in new spans fault against

@@ -3,7 +3,7 @@ use Rattle.std.specs.Prelude.{ℕ, ◌≡◌, ◌≢◌, ◌<◌, All, List, [],
 use Rattle.std.specs.Str.{IsUtf8}
 use Rattle.lw_base.specs.declared.numbers.NodeId.{NodeId}
 use Rattle.lw_base.specs.declared.token.Span.{Span}
-use Rattle.lw_grammar.specs.declared.grammar.Grammar.{Grammar}
+use Rattle.lw_link_rules.specs.Setting.{Setting}
 use Rattle.lw_query.specs.Built.{tree_seen}
 use Rattle.lw_query.specs.declared.view.View.{View}
 use Rattle.lw_reading.specs.Reading.{Reads}
@@ -24,21 +24,21 @@ text_after new v spans = replaced new v.text.now spans
 abbrev pub AreAllIn : List View → List (List Span) → Type 0
 AreAllIn views spans = (k : ℕ) (v : View) (s : List Span) → slice_get views k ≡ Some v → slice_get spans k ≡ Some s → All (IsInText v.text.now) s
 
-module _ (g : Grammar) where
+module _ (setting : Setting) where
   -- what a text is read as, where it can be read
   abbrev pub ReadsWholeAs : List ℕ → Option Parts → Type 0
-  ReadsWholeAs text found = MatchOption found (CannotBeRead g text) (λ tree. IsUtf8 text × Reads g text (Whole tree))
+  ReadsWholeAs text found = MatchOption found (CannotBeRead setting text) (λ tree. IsUtf8 text × Reads setting.grammar text (Whole tree))
 
   -- the text is read whole, as something of the shape of a tree
   pub record IsKeptAs (text : List ℕ) (tree other : Parts) : Type 0 where
     pub utf8 : IsUtf8 text
-    pub reads : Reads g text (Whole other)
-    pub same_shape : HaveSameShape g tree other
+    pub reads : Reads setting.grammar text (Whole other)
+    pub same_shape : HaveSameShape setting.grammar tree other
 
   -- it is not, and the fault says so of a document at an address
   pub data Spoils (address text : List ℕ) (tree : Parts) : RenameFault → Type 0 where
-    unreadable : CannotBeRead g text → Spoils address text tree (NotParsed address)
-    reshaped : {other : Parts} {n : NodeId} → IsUtf8 text → Reads g text (Whole other) → IsFirstUnlike g tree other n.0 → Spoils address text tree (Shape address n)
+    unreadable : CannotBeRead setting text → Spoils address text tree (NotParsed address)
+    reshaped : {other : Parts} {n : NodeId} → IsUtf8 text → Reads setting.grammar text (Whole other) → IsFirstUnlike setting.grammar tree other n.0 → Spoils address text tree (Shape address n)
 
   module _ (new : List ℕ) where
     -- the new tree of a document, where it has a tree and something in it is replaced

@@ -2,6 +2,7 @@
 use Rattle.std.specs.Prelude.{ℕ, ◌≡◌, ◌<◌, List, Option, Some, length, map, slice_get}
 use Rattle.std.specs.List.{AllZip}
 use Rattle.lw_grammar.specs.declared.grammar.Grammar.{Grammar}
+use Rattle.lw_link_rules.specs.Setting.{Setting}
 use Rattle.lw_base.specs.declared.numbers.RefId.{RefId}
 use Rattle.lw_base.specs.declared.numbers.NodeId.{NodeId}
 use Rattle.lw_base.specs.declared.token.Span.{Span}
@@ -9,7 +10,7 @@ use Rattle.lw_query.specs.Built.{tree_seen}
 use Rattle.lw_query.specs.declared.view.View.{View}
 use Rattle.lw_reading.specs.Reading.{Reads}
 use Rattle.lw_reading.specs.declared.parsed.Parsed.TheVariants.{Whole}
-use Rattle.lw_link_rules.specs.Links.{IsNumberBelow}
+use Rattle.lw_link_rules.specs.Links.{rules_of}
 use Rattle.lw_scoping.specs.Links.{Link, LinksTo, Trees}
 use Rattle.lw_tree.specs.declared.node.Reference.{Reference}
 use Rattle.lw_tree.specs.Parts.{Parts}
@@ -20,8 +21,8 @@ use Rattle.lw_rename.specs.declared.fault.RenameFault.{RenameFault}
 use Rattle.lw_rename.specs.declared.fault.RenameFault.TheVariants.{Rebound}
 
 -- over these trees the references of a document with this tree have these links
-abbrev pub HasLinks : Grammar → Trees → List ℕ → Parts → List Link → Type 0
-HasLinks g trees address tree links = AllZip (LinksTo (IsNumberBelow g) trees address tree) tree.refs links
+abbrev pub HasLinks : Setting → Trees → List ℕ → Parts → List Link → Type 0
+HasLinks setting trees address tree links = AllZip (LinksTo (rules_of setting) trees address tree) tree.refs links
 
 -- the fault tells that a reference is rebound, which stands here
 pub record TellsRebound (address : List ℕ) (i : ℕ) (span : Span) (led leads : Link) (fault : RenameFault) : Type 0 where
@@ -50,17 +51,17 @@ pub record AreReadAfter (g : Grammar) (views : List View) (news : List (Option P
   pub each : (k : ℕ) (v : View) (t : Option Parts) (tree : Parts) → StandsWith views news k v t → later t (tree_seen v) ≡ Some tree →
       (text : List ℕ) × Reads g text (Whole tree) × (length v.answers.now ≡ length tree.refs) × HasOldTree v
 
-module _ (g : Grammar) (views : List View) (trees : Trees) where
+module _ (setting : Setting) (views : List View) (trees : Trees) where
   -- over these trees the references of a document with this tree lead where its answers do
   pub record StayIn (v : View) (tree : Parts) : Type 0 where
     pub links : List Link
-    pub leads : HasLinks g trees v.uri.now tree links
+    pub leads : HasLinks setting trees v.uri.now tree links
     pub same : map (link_among views) v.answers.now ≡ links
 
   -- the first that does not is told, with where it stood
   pub record IsReboundIn (v : View) (tree : Parts) (fault : RenameFault) : Type 0 where
     pub links : List Link
-    pub leads : HasLinks g trees v.uri.now tree links
+    pub leads : HasLinks setting trees v.uri.now tree links
     pub reference : RefId
     pub span : Span
     pub before : Option (List ℕ × NodeId)

@@ -4,6 +4,7 @@ ghost use Rattle.lw_numbers.specs.Numbering.{property_names};
 ghost use Rattle.lw_reading.specs.Within.{IsInText};
 ghost use Rattle.lw_places.specs.Replacing.{replaced as replaced_text};
 ghost use Rattle.lw_rename.specs.Rereading.{AreAllAgain, AreAllIn, IsAgain, IsFirstSpoiled, IsKeptAs, IsSpoiled, ReadsWholeAs, Spoils};
+ghost use Rattle.lw_lang.specs.Language.{setting_of};
 
 use crate::RenameFault;
 use crate::replacing::replaced;
@@ -16,7 +17,7 @@ use std::alloc::Global;
 
 /// The tree of a text, where it is one that can be read.
 fn read_whole(alloc: Global, language: &Language, bytes: Vec<u8>) -> Result<Option<Tree>, NoMemory>
-    ensures { IfOk result (ReadsWholeAs language.now.grammar bytes.items) }
+    ensures { IfOk result (ReadsWholeAs (setting_of language.now) bytes.items) }
 {
     let Some(text) = Name::from_vec(bytes) else {
         return Ok(None);
@@ -37,7 +38,7 @@ fn read_replaced(
     new: &Name,
 ) -> Result<Option<Tree>, NoMemory>
     requires { All (IsInText text.now) spans.now }
-    ensures { IfOk result (ReadsWholeAs language.now.grammar (replaced_text new.now text.now spans.now)) }
+    ensures { IfOk result (ReadsWholeAs (setting_of language.now) (replaced_text new.now text.now spans.now)) }
 {
     match replaced(alloc, text.bytes(), spans, new.bytes()) {
         Ok(Some(bytes)) => read_whole(alloc, language, bytes),
@@ -83,9 +84,9 @@ fn edited(
     new: &Name,
 ) -> Result<Tree, RenameFault>
     requires { All (IsInText view.now.text.now) spans.now }
-    ensures kept { IfOk result (IsKeptAs language.now.grammar (replaced_text new.now view.now.text.now spans.now) tree.now) }
+    ensures kept { IfOk result (IsKeptAs (setting_of language.now) (replaced_text new.now view.now.text.now spans.now) tree.now) }
     ensures refused { IfErr result (λ fault. (fault ≡ RenameFault.NoMemory) ⊎
-        Spoils language.now.grammar view.now.uri.now (replaced_text new.now view.now.text.now spans.now) tree.now fault) }
+        Spoils (setting_of language.now) view.now.uri.now (replaced_text new.now view.now.text.now spans.now) tree.now fault) }
 {
     match read_replaced(alloc, language, view.text, spans, new) {
         Ok(Some(other)) => match first_unlike(tree, &other, count_of_properties(language)) {
@@ -106,8 +107,8 @@ fn again(
     new: &Name,
 ) -> Result<Option<Tree>, RenameFault>
     requires { All (IsInText view.now.text.now) spans.now }
-    ensures kept { IfOk result (IsAgain language.now.grammar new.now view.now spans.now) }
-    ensures refused { IfErr result (λ fault. (fault ≡ RenameFault.NoMemory) ⊎ IsSpoiled language.now.grammar new.now view.now spans.now fault) }
+    ensures kept { IfOk result (IsAgain (setting_of language.now) new.now view.now spans.now) }
+    ensures refused { IfErr result (λ fault. (fault ≡ RenameFault.NoMemory) ⊎ IsSpoiled (setting_of language.now) new.now view.now spans.now fault) }
 {
     let Some(tree) = view.tree else {
         return Ok(None);
@@ -131,8 +132,8 @@ pub(crate) fn all_again(
 ) -> Result<Vec<Option<Tree>>, RenameFault>
     requires long { length spans.now ≡ length views.now }
     requires within { AreAllIn views.now spans.now }
-    ensures kept { IfOk result (λ trees. AreAllAgain language.now.grammar new.now views.now spans.now trees.items) }
-    ensures refused { IfErr result (λ fault. (fault ≡ RenameFault.NoMemory) ⊎ IsFirstSpoiled language.now.grammar new.now views.now spans.now fault) }
+    ensures kept { IfOk result (λ trees. AreAllAgain (setting_of language.now) new.now views.now spans.now trees.items) }
+    ensures refused { IfErr result (λ fault. (fault ≡ RenameFault.NoMemory) ⊎ IsFirstSpoiled (setting_of language.now) new.now views.now spans.now fault) }
 {
     let mut trees = Vec::new(alloc);
     'reading: for i in 0..views.len() {

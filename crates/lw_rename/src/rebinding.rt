@@ -9,6 +9,7 @@ ghost use Rattle.lw_rename.specs.Afterwards.{AreApart, trees_after};
 ghost use Rattle.lw_rename.specs.Entries.{IsIndexAfter};
 ghost use Rattle.lw_rename.specs.Leads.{link_among};
 ghost use Rattle.lw_rename.specs.Staying.{AreReadAfter, HasLinks, HasOldTree, IsFirstRebound, IsReboundIn, StayAmongFirst, StayIn, TellsRebound};
+ghost use Rattle.lw_lang.specs.Language.{setting_of};
 
 use crate::RenameFault;
 use crate::entering::tree_after;
@@ -35,7 +36,7 @@ fn answers_after<L: Ledger>(
     requires { (text : List ℕ) × Reads language.now.grammar text (Whole tree.now) }
     ensures count { IfOk result (λ found. length found.items ≡ length tree.now.refs) }
     ensures links { (trees : Trees) → IsIndexOf trees index.now → IsDocumentOf trees index.now view.now.doc.0 view.now.uri.now tree.now →
-        IfOk result (λ found. HasLinks language.now.grammar trees view.now.uri.now tree.now (map (link_of index.now) found.items)) }
+        IfOk result (λ found. HasLinks (setting_of language.now) trees view.now.uri.now tree.now (map (link_of index.now) found.items)) }
 {
     let locals = match Locals::of_tree(alloc, tree) {
         Ok(locals) => locals,
@@ -100,9 +101,9 @@ fn stay<L: Ledger>(
     requires old { HasOldTree view.now }
     requires alike { (answer : AnAnswer) → link_among views.now answer ≡ link_of index.now answer }
     ensures stay { OnOk result ((trees : Trees) → IsIndexOf trees index.now → IsDocumentOf trees index.now view.now.doc.0 view.now.uri.now tree.now →
-        StayIn language.now.grammar views.now trees view.now tree.now) }
+        StayIn (setting_of language.now) views.now trees view.now tree.now) }
     ensures rebound { IfErr result (λ fault. (fault ≡ RenameFault.NoMemory) ⊎ ((trees : Trees) → IsIndexOf trees index.now →
-        IsDocumentOf trees index.now view.now.doc.0 view.now.uri.now tree.now → IsReboundIn language.now.grammar views.now trees view.now tree.now fault)) }
+        IsDocumentOf trees index.now view.now.doc.0 view.now.uri.now tree.now → IsReboundIn (setting_of language.now) views.now trees view.now tree.now fault)) }
 {
     let Some(old) = view.tree else {
         return Ok(());
@@ -138,9 +139,9 @@ pub(crate) fn all_stay<L: Ledger>(
     requires apart { AreApart views.now }
     requires index { IsIndexAfter views.now trees.now (length views.now) index.now }
     requires read { AreReadAfter language.now.grammar views.now trees.now }
-    ensures stay { OnOk result (StayAmongFirst language.now.grammar views.now (trees_after views.now trees.now) trees.now (length views.now)) }
+    ensures stay { OnOk result (StayAmongFirst (setting_of language.now) views.now (trees_after views.now trees.now) trees.now (length views.now)) }
     ensures rebound { IfErr result (λ fault. (fault ≡ RenameFault.NoMemory) ⊎
-        IsFirstRebound language.now.grammar views.now (trees_after views.now trees.now) trees.now fault) }
+        IsFirstRebound (setting_of language.now) views.now (trees_after views.now trees.now) trees.now fault) }
 {
     'linking: for i in 0..views.len() {
         let view = &views[i];

@@ -8,6 +8,7 @@ ghost use Rattle.lw_rename.specs.Grouped.{AreGrouped, TellsRefusal};
 ghost use Rattle.lw_rename.specs.Outcomes.{StandsAgainst, StandsNothingAgainst};
 ghost use Rattle.lw_rename.specs.SpansOf.{AreAllSpans};
 ghost use Rattle.lw_rename.specs.Standing.{IsFileIn, IsFaultIn};
+ghost use Rattle.lw_lang.specs.Language.{setting_of};
 
 use crate::again::all_again;
 use crate::entering::index_after;
@@ -35,10 +36,10 @@ fn stands_nothing_against<L: Ledger>(
     requires name { blank.name ≡ L.name }
     requires parts { blank.parts ≡ L.parts }
     requires some { 0 < blank.parts }
-    requires built { AreBuiltViews language.now.grammar views.now }
+    requires built { AreBuiltViews (setting_of language.now) views.now }
     requires spans { (target : ATarget) × AreAllSpans target views.now spans.now }
-    ensures nothing { OnOk result (StandsNothingAgainst language.now.grammar new_name.now views.now spans.now) }
-    ensures refused { IfErr result (λ fault. (fault ≡ RenameFault.NoMemory) ⊎ StandsAgainst language.now.grammar new_name.now views.now spans.now fault) }
+    ensures nothing { OnOk result (StandsNothingAgainst (setting_of language.now) new_name.now views.now spans.now) }
+    ensures refused { IfErr result (λ fault. (fault ≡ RenameFault.NoMemory) ⊎ StandsAgainst (setting_of language.now) new_name.now views.now spans.now fault) }
 {
     let trees = match all_again(alloc, language, views, spans, new_name) {
         Ok(trees) => trees,
@@ -69,12 +70,12 @@ pub fn rename(
     off: u32,
     new_name: &Name,
 ) -> Result<Items<FileSpans>, RenameFault>
-    requires { AreBuiltViews language.now.grammar views.now }
+    requires { AreBuiltViews (setting_of language.now) views.now }
     ensures renamed { IfOk result (λ files. (mentions : List Mention) × AreGrouped mentions files ×
-        IsRenamed language.now.grammar (texts_seen views.now) uri.now off new_name.now (Ok mentions)) }
+        IsRenamed (setting_of language.now) (texts_seen views.now) uri.now off new_name.now (Ok mentions)) }
     ensures within { IfOk result (All (IsFileIn views.now)) }
     ensures refused { IfErr result (λ fault. (fault ≡ RenameFault.NoMemory) ⊎ ((refusal : Refusal) × TellsRefusal fault refusal ×
-        IsRenamed language.now.grammar (texts_seen views.now) uri.now off new_name.now (Err refusal))) }
+        IsRenamed (setting_of language.now) (texts_seen views.now) uri.now off new_name.now (Err refusal))) }
     ensures told { IfErr result (IsFaultIn views.now) }
 {
     let target = match meant(views, uri, off) {

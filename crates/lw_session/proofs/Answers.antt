@@ -60,7 +60,7 @@ stops v phase message told agrees is = record { changed = documents v; agrees = 
 
 -- what passes it, in a session that is live
 module _ (v w : WorkspaceView) (phase : Phase) (live : IsLive phase) (message : Message) (through : gate phase message ≡ Passes) where
-  pub effective : (asked : List reads.Asked) (n : Documents) (replies : List Reply) → Agrees w n → TakesEffect v.grammar (documents v) message asked n replies →
+  pub effective : (asked : List reads.Asked) (n : Documents) (replies : List Reply) → Agrees w n → TakesEffect v.setting (documents v) message asked n replies →
       IsAnswered v w phase message asked (telling phase replies)
   effective asked n replies agrees effect = record {
     changed = n;
@@ -78,7 +78,7 @@ unasked files count v w phase message told is =
 -- and where it is
 pub by_reads : (files : Option (List (List ℕ × List ℕ))) (before now : ℕ) (v w : WorkspaceView) (phase : Phase) → IsLive phase → (message : Message) →
     gate phase message ≡ Passes → (Does : Documents → List reads.Asked → Documents → List Reply → Type 0) →
-    ((asked : List reads.Asked) (n : Documents) (replies : List Reply) → Does (documents v) asked n replies → TakesEffect v.grammar (documents v) message asked n replies) →
+    ((asked : List reads.Asked) (n : Documents) (replies : List Reply) → Does (documents v) asked n replies → TakesEffect v.setting (documents v) message asked n replies) →
     Agrees v (documents v) → (replies : List Reply) → IsDoneByReads files before now v w Does replies → IsAnsweredBy files before now v w phase message (telling phase replies)
 by_reads files before now v w phase live message through Does effect agrees replies is =
     let to = is.moves (documents v) agrees in
@@ -129,8 +129,8 @@ module _ (v w : WorkspaceView) (phase : Phase) (live : IsLive phase) (agrees : A
         (effect.opens (opening.puts short (room v (documents v) agrees opened.id.address few free)))
 
   -- a question, where the build has come to its end
-  pub answers : (asked : Asked) (lists : List Published) (reply : Reply) → Agrees w (documents w) → BuildsToEnd v.grammar (documents v) (documents w) lists →
-      RepliesTo v.grammar (documents w) (asked_message asked) reply → IsAnswered v w phase (asked_message asked) [] (telling phase (map as_reply lists ++ reply ∷ []))
+  pub answers : (asked : Asked) (lists : List Published) (reply : Reply) → Agrees w (documents w) → BuildsToEnd v.setting (documents v) (documents w) lists →
+      RepliesTo v.setting (documents w) (asked_message asked) reply → IsAnswered v w phase (asked_message asked) [] (telling phase (map as_reply lists ++ reply ∷ []))
   answers asked lists reply after builds replies =
       effective v w phase live (asked_message asked) (asks phase live asked.id asked.address asked.at asked.question) [] _ _ after (effect.asks lists reply builds replies)
 

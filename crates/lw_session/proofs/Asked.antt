@@ -19,7 +19,7 @@ use Rattle.lw_query.specs.declared.spot.Spot.{Spot}
 use Rattle.lw_rpc.specs.declared.reply.Location.{Location}
 use Rattle.lw_rpc.specs.declared.reply.Outcome.TheVariants.{Nothing}
 use Rattle.lw_rpc.specs.declared.reply.Outcome.TheVariants as outcome
-use Rattle.lw_link_rules.specs.Links.{AreTreesOfTexts, IsNumberBelow}
+use Rattle.lw_link_rules.specs.Links.{AreTreesOfTexts, rules_of}
 use Rattle.lw_scoping.specs.Links.{Trees}
 use Rattle.lw_text.specs.Offset.{IsOffset}
 use Rattle.lw_text.specs.Position.{IsPosition}
@@ -29,6 +29,7 @@ use Rattle.lw_session.specs.Locating as part
 use Rattle.lw_session.specs.Locating.{IsAskedPlace, IsLocated, IsPartOf, IsSpotOf}
 use Rattle.lw_session.specs.declared.locating.PlaceAsked.{PlaceAsked}
 use Rattle.lw_session.proofs.Known.{same_get, turn}
+use Rattle.lw_scoping.specs.Rules.{Rules}
 
 -- ---- the documents that a workspace stands for
 
@@ -48,7 +49,7 @@ pub none_held : (v : WorkspaceView) (address : List ℕ) → get v.kept address 
 none_held v address none = same_get v.is_built v.kept address ∙ ap (option_map (turn v.is_built)) none
 
 module _ (v : WorkspaceView) (address : List ℕ) (at : Pos) (asked : PlaceAsked) (is : IsAskedPlace v address at asked) where
-  pub is_asked : IsAskedAt v.grammar (documents v) address at asked.off
+  pub is_asked : IsAskedAt v.setting (documents v) address at asked.off
   is_asked = record {
     document = turn v.is_built is.held;
     held = same_get v.is_built v.kept address ∙ ap (option_map (turn v.is_built)) is.here;
@@ -62,7 +63,7 @@ module _ (v : WorkspaceView) (address : List ℕ) (at : Pos) (asked : PlaceAsked
 
 -- ---- mentions as spots and as locations
 
-module _ (seen : SeenView) (below : ℕ → ℕ → Type 0) (trees : Trees) (views : AreViewsOf below (seen_tree seen) (seen_answers seen) (StandsSeen seen) trees) where
+module _ (seen : SeenView) (rules : Rules) (trees : Trees) (views : AreViewsOf rules (seen_tree seen) (seen_answers seen) (StandsSeen seen) trees) where
   module _ (spot : Spot) (m : Mention) (at : IsMentionAt (StandsSeen seen) spot m) where
     stands_once : (other : List ℕ) → StandsSeen seen spot.doc.0 other → other ≡ m.address
     stands_once other stands = views.one_address spot.doc.0 other m.address stands at.stands
@@ -77,7 +78,7 @@ module _ (seen : SeenView) (below : ℕ → ℕ → Type 0) (trees : Trees) (vie
       part = subst (IsPartOf is.tree) (sym at.span) (part.name target.1 is.text is.named);
     }
 
-    spot_of_use : (target : List ℕ × ℕ) → IsUseHere below trees target m → IsSpotOf seen spot
+    spot_of_use : (target : List ℕ × ℕ) → IsUseHere rules trees target m → IsSpotOf seen spot
     spot_of_use target is = record {
       address = m.address;
       stands = at.stands;
@@ -87,7 +88,7 @@ module _ (seen : SeenView) (below : ℕ → ℕ → Type 0) (trees : Trees) (vie
       part = part.reference is.r is.among (is.here ∙ sym at.span);
     }
 
-    pub spot_of_mention : (declaration : Bool) (target : List ℕ × ℕ) → IsMentionOf below trees declaration target m → IsSpotOf seen spot
+    pub spot_of_mention : (declaration : Bool) (target : List ℕ × ℕ) → IsMentionOf rules trees declaration target m → IsSpotOf seen spot
     spot_of_mention declaration target (used is) = spot_of_use target is
     spot_of_mention declaration target (declared asked is) = spot_of_name target is
 
@@ -107,7 +108,7 @@ module _ (seen : SeenView) (below : ℕ → ℕ → Type 0) (trees : Trees) (vie
 
   -- several in a row
   pub spots_of_mentions : (declaration : Bool) (target : List ℕ × ℕ) (spots : List Spot) (mentions : List Mention) →
-      AllZip (IsMentionAt (StandsSeen seen)) spots mentions → ((m : Mention) → Contains mentions m → IsMentionOf below trees declaration target m) → All (IsSpotOf seen) spots
+      AllZip (IsMentionAt (StandsSeen seen)) spots mentions → ((m : Mention) → Contains mentions m → IsMentionOf rules trees declaration target m) → All (IsSpotOf seen) spots
   spots_of_mentions declaration target [] [] at are = λ k d inside. absurd (omega (arith, inside))
   spots_of_mentions declaration target [] (m ∷ ms) at are = absurd at
   spots_of_mentions declaration target (s ∷ ss) [] at are = absurd at
@@ -136,39 +137,39 @@ stands_asked v seen same address at asked is =
     (ap (option_map (λ (held : Numbered). held.number.0)) is.here ∙ ap (λ (d : DocId). Some d.0) (sym is.number))
 
 module _ (v : WorkspaceView) (seen : SeenView) (same : seen.kept ≡ v.kept) (trees : Trees)
-    (are_trees : AreTreesOfTexts v.grammar (present_texts (documents v)) trees)
-    (views : AreViewsOf (IsNumberBelow v.grammar) (seen_tree seen) (seen_answers seen) (StandsSeen seen) trees)
+    (are_trees : AreTreesOfTexts v.setting.grammar (present_texts (documents v)) trees)
+    (views : AreViewsOf (rules_of v.setting) (seen_tree seen) (seen_answers seen) (StandsSeen seen) trees)
     (address : List ℕ) (at : Pos) (asked : PlaceAsked) (is : IsAskedPlace v address at asked) where
   abbrev IsDefinedAt : Option Mention → Type 0
-  IsDefinedAt = IsDefinitionAt (IsNumberBelow v.grammar) trees address asked.off
+  IsDefinedAt = IsDefinitionAt (rules_of v.setting) trees address asked.off
 
   pub spot_of_definition : (spot : Spot) (m : Mention) → IsMentionAt (StandsSeen seen) spot m → IsDefinedAt (Some m) → IsSpotOf seen spot
-  spot_of_definition spot m there (defined {target = target} meant named) = spot_of_name seen (IsNumberBelow v.grammar) trees views spot m there target named
+  spot_of_definition spot m there (defined {target = target} meant named) = spot_of_name seen (rules_of v.setting) trees views spot m there target named
 
-  pub tells_no_definition : IsDefinedAt None → TellsDefinition v.grammar (documents v) address at Nothing
+  pub tells_no_definition : IsDefinedAt None → TellsDefinition v.setting (documents v) address at Nothing
   tells_no_definition none = ask.nothing (is_asked v address at asked is) (record { trees = trees; are_trees = are_trees; is_there = none })
 
   pub tells_definition : (spot : Spot) (m : Mention) (l : Location) → IsMentionAt (StandsSeen seen) spot m → IsDefinedAt (Some m) → IsLocated seen spot l →
-      TellsDefinition v.grammar (documents v) address at (outcome.Spot l)
+      TellsDefinition v.setting (documents v) address at (outcome.Spot l)
   tells_definition spot m l there found located =
       ask.spot (is_asked v address at asked is) (record { trees = trees; are_trees = are_trees; is_there = found })
-      (location_of_mention seen (IsNumberBelow v.grammar) trees views spot m there v same l located)
+      (location_of_mention seen (rules_of v.setting) trees views spot m there v same l located)
 
   module _ (declaration : Bool) where
     abbrev AreMentionedAt : Option (List Mention) → Type 0
-    AreMentionedAt = AreReferencesAt (IsNumberBelow v.grammar) trees address asked.off declaration
+    AreMentionedAt = AreReferencesAt (rules_of v.setting) trees address asked.off declaration
 
     pub spots_of_references : (spots : List Spot) (mentions : List Mention) → AllZip (IsMentionAt (StandsSeen seen)) spots mentions →
         AreMentionedAt (Some mentions) → All (IsSpotOf seen) spots
     spots_of_references spots mentions there (mentioned {target = target} meant are) =
-        spots_of_mentions seen (IsNumberBelow v.grammar) trees views declaration target spots mentions there (λ m. (are.exact m).0)
+        spots_of_mentions seen (rules_of v.setting) trees views declaration target spots mentions there (λ m. (are.exact m).0)
 
-    pub tells_no_references : AreMentionedAt None → TellsReferences v.grammar (documents v) address at declaration Nothing
+    pub tells_no_references : AreMentionedAt None → TellsReferences v.setting (documents v) address at declaration Nothing
     tells_no_references none = ask.nothing (is_asked v address at asked is) (record { trees = trees; are_trees = are_trees; are_there = none })
 
     pub tells_references : (spots : List Spot) (mentions : List Mention) (locations : List Location) → AllZip (IsMentionAt (StandsSeen seen)) spots mentions →
         AreMentionedAt (Some mentions) → AllZip (IsLocated seen) spots locations →
-        TellsReferences v.grammar (documents v) address at declaration (outcome.Spots locations)
+        TellsReferences v.setting (documents v) address at declaration (outcome.Spots locations)
     tells_references spots mentions locations there found located =
         ask.spots (is_asked v address at asked is) (record { trees = trees; are_trees = are_trees; are_there = found })
-        (locations_of_mentions seen (IsNumberBelow v.grammar) trees views v same spots mentions locations there located)
+        (locations_of_mentions seen (rules_of v.setting) trees views v same spots mentions locations there located)

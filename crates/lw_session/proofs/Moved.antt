@@ -7,7 +7,7 @@ use Rattle.std.proofs.lemmas.Result.{IfOk-weaker}
 use Rattle.std.specs.FinMap.{get, insert, len, remove}
 use Rattle.lw_docs.specs.Documents.{Numbered}
 use Rattle.lw_base.specs.declared.limits.TheConstants.{MOST_DOCUMENTS}
-use Rattle.lw_grammar.specs.declared.grammar.Grammar.{Grammar}
+use Rattle.lw_link_rules.specs.Setting.{Setting}
 use Rattle.lw_io.specs.Store.{AnswersFile, CountsFind}
 use Rattle.lw_io.specs.declared.store.Found.{Found}
 use Rattle.lw_io.specs.declared.store.Found.TheVariants.{Text, Absent, NotUtf8, TooLong, Failed, NoMemory}
@@ -157,8 +157,8 @@ module _ (v : WorkspaceView) (address : List ℕ) where
   no_room text none m agrees = (m, agrees, moving.too_many (full v m agrees address none))
 
   pub removed : (w : WorkspaceView) (held : Numbered) → get v.kept address ≡ Some held →
-      ((m : Documents) → Agrees v m → (n : Documents) × IsSettled v.grammar (shown_texts m) address (remove m address) n × Agrees w n) →
-      (replies : List Reply) → replies ≡ map as_reply (farewell address held.doc.published) → Moves v w (λ m n. RemovesHeld v.grammar m address n replies)
+      ((m : Documents) → Agrees v m → (n : Documents) × IsSettled v.setting (shown_texts m) address (remove m address) n × Agrees w n) →
+      (replies : List Reply) → replies ≡ map as_reply (farewell address held.doc.published) → Moves v w (λ m n. RemovesHeld v.setting m address n replies)
   removed w held at leaves replies is m agrees =
       let left = leaves m agrees in
       let found = is_held v m agrees address held at in (
@@ -173,7 +173,7 @@ module _ (v : WorkspaceView) (address : List ℕ) where
             }),
       )
 
-  pub none_removed : get v.kept address ≡ None → Moves v v (λ m n. RemovesHeld v.grammar m address n [])
+  pub none_removed : get v.kept address ≡ None → Moves v v (λ m n. RemovesHeld v.setting m address n [])
   none_removed none m agrees = (m, agrees, moving.not_held (is_absent v m agrees address none))
 
 -- a document that is not removed since there is none
@@ -190,24 +190,24 @@ module _ (v : WorkspaceView) (address : List ℕ) (held : Numbered) (at : get v.
 
   module _ (asked : List Asked) where
     pub closes_text : (text : List ℕ) (n : Documents) (replies : List Reply) → FindsFile address asked (Text text) → PutsFile m address text n replies →
-        ClosesDocument v.grammar m address asked n replies
+        ClosesDocument v.setting m address asked n replies
     closes_text text n replies finds (moving.puts free) = closing.text open_here.1 finds
     closes_text text n replies finds (moving.too_many none) = never_full m address none (inl (ap is_some open_here.1.held))
 
-    removal : (n : Documents) (replies : List Reply) → RemovesHeld v.grammar m address n replies → Removes v.grammar m address n replies
+    removal : (n : Documents) (replies : List Reply) → RemovesHeld v.setting m address n replies → Removes v.setting m address n replies
     removal n replies (moving.held removes) = removes
     removal n replies (moving.not_held none) = absurd (none-some open_here.0 (sym none ∙ open_here.1.held))
 
-    pub closes_absent : (n : Documents) (replies : List Reply) → FindsFile address asked Absent → RemovesHeld v.grammar m address n replies →
-        ClosesDocument v.grammar m address asked n replies
+    pub closes_absent : (n : Documents) (replies : List Reply) → FindsFile address asked Absent → RemovesHeld v.setting m address n replies →
+        ClosesDocument v.setting m address asked n replies
     closes_absent n replies finds removes = closing.absent open_here.1 finds (removal n replies removes)
 
-    pub closes_not_text : (n : Documents) (replies : List Reply) → FindsFile address asked NotUtf8 → RemovesHeld v.grammar m address n replies →
-        ClosesDocument v.grammar m address asked n (replies ++ not_text_log address ∷ [])
+    pub closes_not_text : (n : Documents) (replies : List Reply) → FindsFile address asked NotUtf8 → RemovesHeld v.setting m address n replies →
+        ClosesDocument v.setting m address asked n (replies ++ not_text_log address ∷ [])
     closes_not_text n replies finds removes = closing.not_text open_here.1 finds (removal n replies removes)
 
-    pub closes_too_long : (n : Documents) (replies : List Reply) → FindsFile address asked TooLong → RemovesHeld v.grammar m address n replies →
-        ClosesDocument v.grammar m address asked n (replies ++ too_long_log address ∷ [])
+    pub closes_too_long : (n : Documents) (replies : List Reply) → FindsFile address asked TooLong → RemovesHeld v.setting m address n replies →
+        ClosesDocument v.setting m address asked n (replies ++ too_long_log address ∷ [])
     closes_too_long n replies finds removes = closing.too_long open_here.1 finds (removal n replies removes)
 
 -- one whose file could not be read
@@ -215,13 +215,13 @@ pub closes_unread : {E : Type 0} (r : Result (List Reply) E) (files : Option (Li
     (held : Numbered) → get v.kept address ≡ Some held → held.doc.is_open ≡ true → IsFoundInStore files before now address Failed →
     IfOk r (λ replies. replies ≡ failed_log address ∷ []) →
     OnOk r ((m : Documents) → Agrees v m → (d : Document) → get m address ≡ Some d → Agrees w (insert m address (closed d))) →
-    IfOk r (IsDoneByReads files before now v w (λ m. ClosesDocument v.grammar m address))
+    IfOk r (IsDoneByReads files before now v w (λ m. ClosesDocument v.setting m address))
 closes_unread (Ok replies) files before now v w address held at on is told closes = record {
   asked = is.asked;
   moves = λ m agrees. (let here = is_open v m agrees address held at on in (
     insert m address (closed here.0),
     closes m agrees here.0 here.1.held,
-    subst (ClosesDocument v.grammar m address is.asked (insert m address (closed here.0))) (sym told) (closing.failed here.1 is.finds),
+    subst (ClosesDocument v.setting m address is.asked (insert m address (closed here.0))) (sym told) (closing.failed here.1 is.finds),
   ));
   by_store = is.by_store;
   counted = is.counted;
@@ -230,49 +230,49 @@ closes_unread (Err e) files before now v w address held at on is told closes = t
 
 -- ---- a file has changed
 
-module _ (g : Grammar) (m : Documents) (address : List ℕ) (asked : List Asked) where
+module _ (setting : Setting) (m : Documents) (address : List ℕ) (asked : List Asked) where
   pub loads_text : (text : List ℕ) (n : Documents) (replies : List Reply) → FindsFile address asked (Text text) → PutsFile m address text n replies →
-      LoadsAgain g m address asked n replies
+      LoadsAgain setting m address asked n replies
   loads_text text n replies finds (moving.puts free) = watching.text finds free
   loads_text text n replies finds (moving.too_many none) = watching.too_many finds none
 
-  pub loads_absent : (n : Documents) (replies : List Reply) → FindsFile address asked Absent → RemovesHeld g m address n replies →
-      LoadsAgain g m address asked n replies
+  pub loads_absent : (n : Documents) (replies : List Reply) → FindsFile address asked Absent → RemovesHeld setting m address n replies →
+      LoadsAgain setting m address asked n replies
   loads_absent n replies finds (moving.held removes) = watching.gone finds removes
   loads_absent n replies finds (moving.not_held none) = watching.never_there finds none
 
-pub sees_removal : (g : Grammar) (m : Documents) (address : List ℕ) (kind : FileChangeKind) (n : Documents) (replies : List Reply) → kind ≡ Deleted → IsUnknown m address →
-    RemovesHeld g m address n replies → SeesChange g m address kind [] n replies
-sees_removal g m address kind n replies is unknown (moving.held removes) = watching.removed is unknown removes
-sees_removal g m address kind n replies is unknown (moving.not_held none) = watching.not_held is none
+pub sees_removal : (setting : Setting) (m : Documents) (address : List ℕ) (kind : FileChangeKind) (n : Documents) (replies : List Reply) → kind ≡ Deleted → IsUnknown m address →
+    RemovesHeld setting m address n replies → SeesChange setting m address kind [] n replies
+sees_removal setting m address kind n replies is unknown (moving.held removes) = watching.removed is unknown removes
+sees_removal setting m address kind n replies is unknown (moving.not_held none) = watching.not_held is none
 
 pub not_deleted : (kind : FileChangeKind) → (kind ≡ Created) ⊎ (kind ≡ Changed) → kind ≢ Deleted
 not_deleted kind (inl is) was = absurd cc
 not_deleted kind (inr is) was = absurd cc
 
 -- one more change is seen
-module _ (g : Grammar) where
-  pub sees_more : (m : Documents) (changes : List FileChange) (asked : List Asked) (n : Documents) (first : List Reply) → SeesChanges g m changes asked n first →
-      (c : FileChange) (more : List Asked) (o : Documents) (rest : List Reply) → SeesChange g n c.uri c.kind more o rest →
-      SeesChanges g m (changes ++ c ∷ []) (asked ++ more) o (first ++ rest)
+module _ (setting : Setting) where
+  pub sees_more : (m : Documents) (changes : List FileChange) (asked : List Asked) (n : Documents) (first : List Reply) → SeesChanges setting m changes asked n first →
+      (c : FileChange) (more : List Asked) (o : Documents) (rest : List Reply) → SeesChange setting n c.uri c.kind more o rest →
+      SeesChanges setting m (changes ++ c ∷ []) (asked ++ more) o (first ++ rest)
   sees_more m [] [] n [] watching.none c more o rest sees =
-      subst₂ (λ (asks : List Asked) (tells : List Reply). SeesChanges g m (c ∷ []) asks o tells) (append-nil more) (append-nil rest)
+      subst₂ (λ (asks : List Asked) (tells : List Reply). SeesChanges setting m (c ∷ []) asks o tells) (append-nil more) (append-nil rest)
       (watching.change {c = c} sees watching.none)
   sees_more m changes asked n first (watching.change {n = k} {c = b} {others = others} {asked = before} {more = behind} {first = told} {rest = tells} sees also) c more o rest last =
-      subst₂ (λ (asks : List Asked) (all : List Reply). SeesChanges g m (b ∷ others ++ c ∷ []) asks o all) (sym (append_assoc before behind more))
+      subst₂ (λ (asks : List Asked) (all : List Reply). SeesChanges setting m (b ∷ others ++ c ∷ []) asks o all) (sym (append_assoc before behind more))
       (sym (append_assoc told tells rest))
       (watching.change {c = b} sees (sees_more k others behind n tells also c more o rest last))
 
 -- the first changes were seen, and then one more
-module _ (files : Option (List (List ℕ × List ℕ))) (before between : ℕ) (u v : WorkspaceView) (same : v.grammar ≡ u.grammar) (seen : List FileChange) (replies : List Reply)
-    (is : IsDoneByReads files before between u v (λ m. SeesChanges u.grammar m seen) replies) (c : FileChange) where
-  more_seen : (m n : Documents) (more : List Asked) (o : Documents) (rest : List Reply) → SeesChanges u.grammar m seen is.asked n replies →
-      SeesChange v.grammar n c.uri c.kind more o rest → SeesChanges u.grammar m (seen ++ c ∷ []) (is.asked ++ more) o (replies ++ rest)
+module _ (files : Option (List (List ℕ × List ℕ))) (before between : ℕ) (u v : WorkspaceView) (same : v.setting ≡ u.setting) (seen : List FileChange) (replies : List Reply)
+    (is : IsDoneByReads files before between u v (λ m. SeesChanges u.setting m seen) replies) (c : FileChange) where
+  more_seen : (m n : Documents) (more : List Asked) (o : Documents) (rest : List Reply) → SeesChanges u.setting m seen is.asked n replies →
+      SeesChange v.setting n c.uri c.kind more o rest → SeesChanges u.setting m (seen ++ c ∷ []) (is.asked ++ more) o (replies ++ rest)
   more_seen m n more o rest first sees =
-      sees_more u.grammar m seen is.asked n replies first c more o rest (subst (λ (g : Grammar). SeesChange g n c.uri c.kind more o rest) same sees)
+      sees_more u.setting m seen is.asked n replies first c more o rest (subst (λ (setting : Setting). SeesChange setting n c.uri c.kind more o rest) same sees)
 
-  pub one_more : (now : ℕ) (w : WorkspaceView) (rest : List Reply) → IsDoneByReads files between now v w (λ m. SeesChange v.grammar m c.uri c.kind) rest →
-      IsDoneByReads files before now u w (λ m. SeesChanges u.grammar m (seen ++ c ∷ [])) (replies ++ rest)
+  pub one_more : (now : ℕ) (w : WorkspaceView) (rest : List Reply) → IsDoneByReads files between now v w (λ m. SeesChange v.setting m c.uri c.kind) rest →
+      IsDoneByReads files before now u w (λ m. SeesChanges u.setting m (seen ++ c ∷ [])) (replies ++ rest)
   one_more now w rest also = record {
     asked = is.asked ++ also.asked;
     moves = λ m agrees. (let first = is.moves m agrees in
@@ -284,7 +284,7 @@ module _ (files : Option (List (List ℕ × List ℕ))) (before between : ℕ) (
 
   -- where memory is refused at that one
   pub cut_at_one : (changes behind : List FileChange) → changes ≡ seen ++ c ∷ behind → (w : WorkspaceView) →
-      MayBeDone v w (λ m. SeesChange v.grammar m c.uri c.kind) → AreSeenInPart u w changes
+      MayBeDone v w (λ m. SeesChange v.setting m c.uri c.kind) → AreSeenInPart u w changes
   cut_at_one changes behind all w (inl stays) = record {
     seen = seen;
     behind = c ∷ behind;
@@ -303,7 +303,7 @@ module _ (files : Option (List (List ℕ × List ℕ))) (before between : ℕ) (
 
 -- where memory is refused behind changes that were seen
 pub cut_behind_seen : (files : Option (List (List ℕ × List ℕ))) (before now : ℕ) (u w : WorkspaceView) (seen changes behind : List FileChange) (replies : List Reply) →
-    changes ≡ seen ++ behind → IsDoneByReads files before now u w (λ m. SeesChanges u.grammar m seen) replies → AreSeenInPart u w changes
+    changes ≡ seen ++ behind → IsDoneByReads files before now u w (λ m. SeesChanges u.setting m seen) replies → AreSeenInPart u w changes
 cut_behind_seen files before now u w seen changes behind replies all is = record {
   seen = seen;
   behind = behind;

@@ -10,7 +10,7 @@ use Rattle.lw_complete.specs.declared.item.Item.{Item}
 use Rattle.lw_conversation.specs.Asking as ask
 use Rattle.lw_conversation.specs.Asking.{IsItemOf, TellsCompletion}
 use Rattle.lw_docs.specs.Documents.{Numbered}
-use Rattle.lw_grammar.specs.declared.grammar.Grammar.{Grammar}
+use Rattle.lw_link_rules.specs.Setting.{Setting}
 use Rattle.lw_machine.specs.Documents.{present_texts}
 use Rattle.lw_places.specs.Offers.{AreOffers}
 use Rattle.lw_places.specs.Words.{IsTypedAt}
@@ -60,15 +60,15 @@ pub same_text : (v : WorkspaceView) (address : List ℕ) (at : Pos) (asked : Pla
 same_text v address at asked is text (held, here, own) =
     ap (λ (h : Numbered). h.doc.text) (same_Some is.held held (sym is.here ∙ here)) ∙ own
 
-module _ (v : WorkspaceView) (of : Grammar) (same_grammar : of ≡ v.grammar) (address : List ℕ) (at : Pos) (asked : PlaceAsked)
+module _ (v : WorkspaceView) (setting : Setting) (same_grammar : setting ≡ v.setting) (address : List ℕ) (at : Pos) (asked : PlaceAsked)
     (is : IsAskedPlace v address at asked) (text : List ℕ) (same : is.held.doc.text ≡ text) where
   pub tells_offers : (items : List Item) (told : List CompletionItem) →
-      AreOffers of (present_texts (documents v)) address text asked.off (map offer_of items) → All (TakesWordAt text asked.off) items →
-      AllZip (IsItemTold text) items told → TellsCompletion v.grammar (documents v) address at (outcome.Offers told)
+      AreOffers setting (present_texts (documents v)) address text asked.off (map offer_of items) → All (TakesWordAt text asked.off) items →
+      AllZip (IsItemTold text) items told → TellsCompletion v.setting (documents v) address at (outcome.Offers told)
   tells_offers items told are words tells =
       let back : text ≡ (is_asked v address at asked is).document.text = sym same ∙ sym (asked_text v address at asked is) in
       ask.offered (is_asked v address at asked is)
-      (subst₂ (λ (g : Grammar) (t : List ℕ). AreOffers g (present_texts (documents v)) address t asked.off (map offer_of items)) same_grammar back are)
+      (subst₂ (λ (setting : Setting) (t : List ℕ). AreOffers setting (present_texts (documents v)) address t asked.off (map offer_of items)) same_grammar back are)
       (subst (λ (t : List ℕ). AllZip (IsItemOf t asked.off) (map offer_of items) told) back
       (told_of_offers text asked.off items told (ends items words) tells))
     where

@@ -15,6 +15,7 @@ use Rattle.lw_build.specs.View.{WorkspaceView, documents}
 use Rattle.lw_conversation.specs.Asking as ask
 use Rattle.lw_conversation.specs.Asking.{AreEditsOf, IsRefusalText, TellsRename, by_document, with_mention}
 use Rattle.lw_grammar.specs.declared.grammar.Grammar.{Grammar}
+use Rattle.lw_link_rules.specs.Setting.{Setting}
 use Rattle.lw_machine.specs.Documents.{present_texts}
 use Rattle.lw_places.specs.Mentions.{Mention}
 use Rattle.lw_rename.specs.Grouped as grouping
@@ -157,7 +158,7 @@ reads_seen : (g : Grammar) (text : List ℕ) (o : Option Parts) (tree : Parts) �
 reads_seen g text o tree (tree_of.whole {tree = own} reads) seen = subst (λ (t : Parts). Reads g text (Whole t)) (same_Some own tree seen) reads
 reads_seen g text o tree (tree_of.broken reads) seen = absurd (none-some tree seen)
 
-module _ (v : WorkspaceView) (views : List View) (are : AreBuiltViews v.grammar views)
+module _ (v : WorkspaceView) (views : List View) (are : AreBuiltViews v.setting views)
     (same : (address : List ℕ) → texts_seen views address ≡ present_texts (documents v) address) where
   present_among : (view : View) → Contains views view → present_texts_of v.kept view.uri.now ≡ Some view.text.now
   present_among view among = sym (same_present v view.uri.now) ∙ sym (same view.uri.now) ∙ text_among views are.ascending view among
@@ -173,17 +174,17 @@ module _ (v : WorkspaceView) (views : List View) (are : AreBuiltViews v.grammar 
   placed_files files all = All-weaker (IsFileIn views) (StandsInFile (present_texts_of v.kept)) placed_file files all
 
   placed_reference : (address : List ℕ) (number : RefId) (s : Span) → IsReferenceAt views address number s →
-      IsReferenceOf v.grammar (present_texts_of v.kept) address number s
+      IsReferenceOf v.setting.grammar (present_texts_of v.kept) address number s
   placed_reference address number s is = record {
     stands = record { text = is.v.text.now; there = ap (present_texts_of v.kept) (sym is.here) ∙ present_among is.v is.among; within = is.within };
     tree = is.stands.tree;
-    reads = reads_seen v.grammar is.v.text.now (tree_seen is.v) is.stands.tree (All-contains (IsBuiltView v.grammar views) views is.v are.built is.among).reads is.stands.seen;
+    reads = reads_seen v.setting.grammar is.v.text.now (tree_seen is.v) is.stands.tree (All-contains (IsBuiltView v.setting views) views is.v are.built is.among).reads is.stands.seen;
     r = is.stands.r;
     at = is.stands.there;
     here = is.stands.here;
   }
 
-  pub placed_fault : (fault : RenameFault) → IsFaultIn views fault → IsPlacedFault v.grammar (present_texts_of v.kept) fault
+  pub placed_fault : (fault : RenameFault) → IsFaultIn views fault → IsPlacedFault v.setting.grammar (present_texts_of v.kept) fault
   placed_fault NoName is = is
   placed_fault (NotParsed address) is = is
   placed_fault (Shape address n) is = is
@@ -245,23 +246,23 @@ module _ (fault : RenameFault) (told : Refusal) (tells : TellsRefusal fault told
           λ i. refusal.Rebound (one i) (two i).0 (link_told (three i)) (link_told (four i))
 
 -- what is replied to a rename
-module _ (v : WorkspaceView) (of : Grammar) (same_grammar : of ≡ v.grammar) (views : List View)
+module _ (v : WorkspaceView) (setting : Setting) (same_grammar : setting ≡ v.setting) (views : List View)
     (same : (address : List ℕ) → texts_seen views address ≡ present_texts (documents v) address) (address : List ℕ) (at : Pos) (asked : PlaceAsked)
     (is : IsAskedPlace v address at asked) (id : Id) (new : List ℕ) where
-  over_documents : (outcome : Result (List Mention) Refusal) → IsRenamed of (texts_seen views) address asked.off new outcome →
-      IsRenamed v.grammar (present_texts (documents v)) address asked.off new outcome
+  over_documents : (outcome : Result (List Mention) Refusal) → IsRenamed setting (texts_seen views) address asked.off new outcome →
+      IsRenamed v.setting (present_texts (documents v)) address asked.off new outcome
   over_documents outcome renamed =
-      subst (λ (g : Grammar). IsRenamed g (present_texts (documents v)) address asked.off new outcome) same_grammar
-      (subst (λ (texts : Texts). IsRenamed of texts address asked.off new outcome) (λ i a. same a i) renamed)
+      subst (λ (setting : Setting). IsRenamed setting (present_texts (documents v)) address asked.off new outcome) same_grammar
+      (subst (λ (texts : Texts). IsRenamed setting texts address asked.off new outcome) (λ i a. same a i) renamed)
 
   pub tells_edits : (mentions : List Mention) (files : List FileSpans) (edits : List FileEdits) → AreGrouped mentions files →
-      IsRenamed of (texts_seen views) address asked.off new (Ok mentions) → AllZip (AreFileEdits (present_texts_of v.kept) new) files edits →
-      TellsRename v.grammar (documents v) id address at new (Done id (outcome.Edits edits))
+      IsRenamed setting (texts_seen views) address asked.off new (Ok mentions) → AllZip (AreFileEdits (present_texts_of v.kept) new) files edits →
+      TellsRename v.setting (documents v) id address at new (Done id (outcome.Edits edits))
   tells_edits mentions files edits together renamed are =
       ask.renames (is_asked v address at asked is) (over_documents (Ok mentions) renamed) (edits_of_files v new mentions files edits together are)
 
-  pub tells_refusal : (told : Refusal) (text : List ℕ) → IsRenamed of (texts_seen views) address asked.off new (Err told) →
-      IsRefusalText v.grammar (present_texts_of v.kept) told text → TellsRename v.grammar (documents v) id address at new (Error (Some id) REQUEST_FAILED text)
+  pub tells_refusal : (told : Refusal) (text : List ℕ) → IsRenamed setting (texts_seen views) address asked.off new (Err told) →
+      IsRefusalText v.setting.grammar (present_texts_of v.kept) told text → TellsRename v.setting (documents v) id address at new (Error (Some id) REQUEST_FAILED text)
   tells_refusal told text renamed says =
       ask.refused (is_asked v address at asked is) (over_documents (Err told) renamed)
-      (same_refusal_text v.grammar (present_texts_of v.kept) (present_texts (documents v)) (same_present v) told text says)
+      (same_refusal_text v.setting.grammar (present_texts_of v.kept) (present_texts (documents v)) (same_present v) told text says)

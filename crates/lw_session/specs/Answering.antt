@@ -6,7 +6,7 @@ use Rattle.lw_build.specs.View.{WorkspaceView, documents}
 use Rattle.lw_machine.specs.Building.{BuildsToEnd}
 use Rattle.lw_machine.specs.Documents.{Documents}
 use Rattle.lw_machine.specs.declared.published.Published.{Published}
-use Rattle.lw_grammar.specs.declared.grammar.Grammar.{Grammar}
+use Rattle.lw_link_rules.specs.Setting.{Setting}
 use Rattle.lw_rpc.specs.declared.message.Message.{Message}
 use Rattle.lw_rpc.specs.declared.reply.Reply.{Reply}
 use Rattle.lw_conversation.specs.Answered.{Answered}
@@ -26,7 +26,7 @@ standing_of v phase = record { documents = documents v; phase = phase }
 pub record IsAnswered (v w : WorkspaceView) (phase : Phase) (message : Message) (asked : List Asked) (told : Told) : Type 0 where
   pub changed : Documents
   pub agrees : Agrees w changed
-  pub answered : Answered v.grammar (standing_of v phase) message asked (record { documents = changed; phase = told.phase }) told.replies told.ended
+  pub answered : Answered v.setting (standing_of v phase) message asked (record { documents = changed; phase = told.phase }) told.replies told.ended
   pub stays : told.phase.initialized ≡ false → changed ≡ documents w
 
 -- the same, where the files of the store are these and its count was and is this
@@ -39,12 +39,12 @@ pub record IsAnsweredBy (files : Option (List (List ℕ × List ℕ))) (before n
 -- the build behind a message, from documents that it leaves: to the end, once `initialize` was answered with a result
 pub data IsBuiltBehind (v w : WorkspaceView) (phase : Phase) (m : Documents) : List Published → Type 0 where
   waits : phase.initialized ≡ false → w ≡ v → IsBuiltBehind v w phase m []
-  builds : {lists : List Published} → phase.initialized ≡ true → BuildsToEnd v.grammar m (documents w) lists → IsBuiltBehind v w phase m lists
+  builds : {lists : List Published} → phase.initialized ≡ true → BuildsToEnd v.setting m (documents w) lists → IsBuiltBehind v w phase m lists
 
 -- a message was answered and what it leaves is built, where the files of the store are these and its count was and is this
-pub record IsServedBy (files : Option (List (List ℕ × List ℕ))) (before now : ℕ) (g : Grammar) (s : Standing) (message : Message) (t : Standing)
+pub record IsServedBy (files : Option (List (List ℕ × List ℕ))) (before now : ℕ) (setting : Setting) (s : Standing) (message : Message) (t : Standing)
     (replies : List Reply) (ended : Ended) : Type 0 where
   pub asked : List Asked
-  pub handles : Handles g s message asked t replies ended
+  pub handles : Handles setting s message asked t replies ended
   pub by_store : AreAnswered files asked
   pub counted : now ≡ count_after before asked

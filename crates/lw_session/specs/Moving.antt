@@ -9,7 +9,7 @@ use Rattle.lw_conversation.specs.Reading.{AreAnswered, Asked, FindsFile}
 use Rattle.lw_conversation.specs.Removing.{Removes}
 use Rattle.lw_conversation.specs.Sessions.{count_after}
 use Rattle.lw_conversation.specs.Watching.{SeesChanges}
-use Rattle.lw_grammar.specs.declared.grammar.Grammar.{Grammar}
+use Rattle.lw_link_rules.specs.Setting.{Setting}
 use Rattle.lw_io.specs.declared.store.Found.{Found}
 use Rattle.lw_machine.specs.Documents.{Documents}
 use Rattle.lw_machine.specs.Events.{put}
@@ -46,9 +46,9 @@ abbrev pub MayBeDone : WorkspaceView → WorkspaceView → (Documents → List A
 MayBeDone v w Does = MayMove v w (λ m n. (asked : List Asked) × (replies : List Reply) × Does m asked n replies)
 
 -- the documents and the replies once there is no document at an address
-pub data RemovesHeld (g : Grammar) (m : Documents) (address : List ℕ) : Documents → List Reply → Type 0 where
-  held : {n : Documents} {replies : List Reply} → Removes g m address n replies → RemovesHeld g m address n replies
-  not_held : get m address ≡ None → RemovesHeld g m address m []
+pub data RemovesHeld (setting : Setting) (m : Documents) (address : List ℕ) : Documents → List Reply → Type 0 where
+  held : {n : Documents} {replies : List Reply} → Removes setting m address n replies → RemovesHeld setting m address n replies
+  not_held : get m address ≡ None → RemovesHeld setting m address m []
 
 -- the documents and the replies once the text of a file is put at an address, where there is room for it
 pub data PutsFile (m : Documents) (address text : List ℕ) : Documents → List Reply → Type 0 where
@@ -60,4 +60,4 @@ pub record AreSeenInPart (v w : WorkspaceView) (changes : List FileChange) : Typ
   pub seen : List FileChange
   pub behind : List FileChange
   pub joined : changes ≡ seen ++ behind
-  pub moves : Moves v w (λ m n. (asked : List Asked) × (replies : List Reply) × SeesChanges v.grammar m seen asked n replies)
+  pub moves : Moves v w (λ m n. (asked : List Asked) × (replies : List Reply) × SeesChanges v.setting m seen asked n replies)

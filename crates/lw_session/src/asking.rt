@@ -33,8 +33,8 @@ pub(crate) fn ask<L: Ledger>(
 ) -> Result<Told, NoMemory>
     requires { IsLive phase }
     ensures answered { IfOk result (IsAnswered workspace.old workspace.new phase (asked_message asked) []) }
-    ensures cut_short { OnErr result (IsCutShort workspace.old.grammar (standing_of workspace.old phase) (asked_message asked) (standing_of workspace.new phase)) }
-    ensures grammar { workspace.new.grammar ≡ workspace.old.grammar }
+    ensures cut_short { OnErr result (IsCutShort workspace.old.setting (standing_of workspace.old phase) (asked_message asked) (standing_of workspace.new phase)) }
+    ensures setting { workspace.new.setting ≡ workspace.old.setting }
 {
     workspace.agrees();
     let lists = workspace.advance(steps)?;
@@ -46,7 +46,7 @@ pub(crate) fn ask<L: Ledger>(
 /// What is replied to a question, where all documents are built.
 fn reply_to(alloc: Global, workspace: &Workspace, asked: Asked) -> Result<Reply, NoMemory>
     requires { workspace.now.is_built ≡ true }
-    ensures { IfOk result (RepliesTo workspace.now.grammar (documents workspace.now) (asked_message asked)) }
+    ensures { IfOk result (RepliesTo workspace.now.setting (documents workspace.now) (asked_message asked)) }
 {
     let Asked {
         id,
@@ -78,7 +78,7 @@ fn definition_at(
     at: Pos,
 ) -> Result<Outcome, NoMemory>
     requires { workspace.now.is_built ≡ true }
-    ensures { IfOk result (TellsDefinition workspace.now.grammar (documents workspace.now) address.now at) }
+    ensures { IfOk result (TellsDefinition workspace.now.setting (documents workspace.now) address.now at) }
 {
     let Some(asked) = asked_at(workspace, address, at) else {
         return Ok(Outcome::Nothing);
@@ -98,7 +98,7 @@ fn references_at(
     declaration: bool,
 ) -> Result<Outcome, NoMemory>
     requires { workspace.now.is_built ≡ true }
-    ensures { IfOk result (TellsReferences workspace.now.grammar (documents workspace.now) address.now at declaration) }
+    ensures { IfOk result (TellsReferences workspace.now.setting (documents workspace.now) address.now at declaration) }
 {
     let Some(asked) = asked_at(workspace, address, at) else {
         return Ok(Outcome::Nothing);

@@ -33,8 +33,8 @@ pub(crate) fn close<F: Store>(
     requires { IsLive phase }
     ensures answered { IfOk result (IsAnsweredBy (F.files store.old) (F.count store.old) (F.count store.new) workspace.old workspace.new phase
         (message_.DidClose address.now)) }
-    ensures cut_short { OnErr result (IsCutShort workspace.old.grammar (standing_of workspace.old phase) (message_.DidClose address.now) (standing_of workspace.new phase)) }
-    ensures grammar { workspace.new.grammar ≡ workspace.old.grammar }
+    ensures cut_short { OnErr result (IsCutShort workspace.old.setting (standing_of workspace.old phase) (message_.DidClose address.now) (standing_of workspace.new phase)) }
+    ensures setting { workspace.new.setting ≡ workspace.old.setting }
     ensures files { F.files store.new ≡ F.files store.old }
 {
     workspace.agrees();
@@ -55,9 +55,9 @@ fn close_document<F: Store>(
     store: &mut F,
 ) -> Result<Items<Reply>, NoMemory>
     ensures closes { IfOk result (IsDoneByReads (F.files store.old) (F.count store.old) (F.count store.new) workspace.old workspace.new
-        (λ m. ClosesDocument workspace.old.grammar m address.now)) }
-    ensures lost { OnErr result (MayBeDone workspace.old workspace.new (λ m. ClosesDocument workspace.old.grammar m address.now)) }
-    ensures grammar { workspace.new.grammar ≡ workspace.old.grammar }
+        (λ m. ClosesDocument workspace.old.setting m address.now)) }
+    ensures lost { OnErr result (MayBeDone workspace.old workspace.new (λ m. ClosesDocument workspace.old.setting m address.now)) }
+    ensures setting { workspace.new.setting ≡ workspace.old.setting }
     ensures files { F.files store.new ≡ F.files store.old }
 {
     if !workspace.is_open(address) {
@@ -81,9 +81,9 @@ fn remove_and_log(
     head: &str,
 ) -> Result<Items<Reply>, NoMemory>
     ensures removed { IfOk result (λ replies. Moves workspace.old workspace.new (λ m n. (farewells : List Reply) ×
-        RemovesHeld workspace.old.grammar m address.now n farewells × (replies ≡ farewells ++ reply_.Log (head.now ++ address.now) ∷ []))) }
-    ensures lost { OnErr result (MayMove workspace.old workspace.new (λ m n. (replies : List Reply) × RemovesHeld workspace.old.grammar m address.now n replies)) }
-    ensures grammar { workspace.new.grammar ≡ workspace.old.grammar }
+        RemovesHeld workspace.old.setting m address.now n farewells × (replies ≡ farewells ++ reply_.Log (head.now ++ address.now) ∷ []))) }
+    ensures lost { OnErr result (MayMove workspace.old workspace.new (λ m n. (replies : List Reply) × RemovesHeld workspace.old.setting m address.now n replies)) }
+    ensures setting { workspace.new.setting ≡ workspace.old.setting }
 {
     let lines = logs(alloc, head, address)?;
     let mut replies = remove_document(alloc, workspace, address)?;
@@ -101,7 +101,7 @@ fn set_closed_and_log(
     ensures closed { OnOk result ((m : Documents) → Agrees workspace.old m → (d : Document) → get m address.now ≡ Some d →
         Agrees workspace.new (insert m address.now (closed d))) }
     ensures refused { OnErr result (workspace.new ≡ workspace.old) }
-    ensures grammar { workspace.new.grammar ≡ workspace.old.grammar }
+    ensures setting { workspace.new.setting ≡ workspace.old.setting }
 {
     let replies = logs(alloc, "store failed: ", address)?;
     workspace.set_closed(address);

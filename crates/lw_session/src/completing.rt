@@ -21,7 +21,7 @@ pub(crate) fn completion_at(
     at: Pos,
 ) -> Result<Outcome, NoMemory>
     requires { workspace.now.is_built ≡ true }
-    ensures { IfOk result (TellsCompletion workspace.now.grammar (documents workspace.now) address.now at) }
+    ensures { IfOk result (TellsCompletion workspace.now.setting (documents workspace.now) address.now at) }
 {
     let Some(asked) = asked_at(workspace, address, at) else {
         return Ok(Outcome::Offers(Items::new(alloc)));

@@ -22,7 +22,7 @@ pub(crate) fn edit(
     requires { IsLive phase }
     ensures answered { IfOk result (IsAnswered workspace.old workspace.new phase (edited_message edited) []) }
     ensures refused { OnErr result (workspace.new ≡ workspace.old) }
-    ensures grammar { workspace.new.grammar ≡ workspace.old.grammar }
+    ensures setting { workspace.new.setting ≡ workspace.old.setting }
 {
     workspace.agrees();
     let Edited { id, changes } = edited;

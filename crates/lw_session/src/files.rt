@@ -44,7 +44,7 @@ pub(crate) fn put_file(
 ) -> Result<Items<Reply>, NoMemory>
     ensures put { IfOk result (λ replies. Moves workspace.old workspace.new (λ m n. PutsFile m address.now text n replies)) }
     ensures refused { OnErr result (workspace.new ≡ workspace.old) }
-    ensures grammar { workspace.new.grammar ≡ workspace.old.grammar }
+    ensures setting { workspace.new.setting ≡ workspace.old.setting }
 {
     workspace.agrees();
     match workspace.put(address, text, None, false) {
@@ -61,9 +61,9 @@ pub(crate) fn remove_document(
     workspace: &mut Workspace,
     address: &Name,
 ) -> Result<Items<Reply>, NoMemory>
-    ensures removed { IfOk result (λ replies. Moves workspace.old workspace.new (λ m n. RemovesHeld workspace.old.grammar m address.now n replies)) }
-    ensures lost { OnErr result (MayMove workspace.old workspace.new (λ m n. (replies : List Reply) × RemovesHeld workspace.old.grammar m address.now n replies)) }
-    ensures grammar { workspace.new.grammar ≡ workspace.old.grammar }
+    ensures removed { IfOk result (λ replies. Moves workspace.old workspace.new (λ m n. RemovesHeld workspace.old.setting m address.now n replies)) }
+    ensures lost { OnErr result (MayMove workspace.old workspace.new (λ m n. (replies : List Reply) × RemovesHeld workspace.old.setting m address.now n replies)) }
+    ensures setting { workspace.new.setting ≡ workspace.old.setting }
 {
     match workspace.remove(address) {
         Ok(told) => farewells(alloc, told),

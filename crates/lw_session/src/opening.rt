@@ -20,7 +20,7 @@ pub(crate) fn open(
     requires { IsLive phase }
     ensures answered { IfOk result (IsAnswered workspace.old workspace.new phase (opened_message opened) []) }
     ensures refused { OnErr result (workspace.new ≡ workspace.old) }
-    ensures grammar { workspace.new.grammar ≡ workspace.old.grammar }
+    ensures setting { workspace.new.setting ≡ workspace.old.setting }
 {
     workspace.agrees();
     let Opened { id, text } = opened;

@@ -29,7 +29,7 @@ pub(crate) fn rename_at(
     new: &Name,
 ) -> Result<Reply, NoMemory>
     requires { workspace.now.is_built ≡ true }
-    ensures { IfOk result (TellsRename workspace.now.grammar (documents workspace.now) id address.now at new.now) }
+    ensures { IfOk result (TellsRename workspace.now.setting (documents workspace.now) id address.now at new.now) }
 {
     let Some(asked) = asked_at(workspace, address, at) else {
         return Ok(refuses(id, Name::from_text(alloc, "There is no name here.")?));
@@ -61,8 +61,8 @@ fn refuses(id: Id, message: Name) -> Reply
 
 /// Why a rename is refused, as an editor is told it.
 fn refusal_text(alloc: Global, workspace: &Workspace, fault: RenameFault) -> Result<Name, NoMemory>
-    requires { IsPlacedFault workspace.now.grammar (present_texts_of workspace.now.kept) fault }
-    ensures told { (refusal : Refusal) → TellsRefusal fault refusal → IfOk result (IsRefusalText workspace.now.grammar (present_texts_of workspace.now.kept) refusal) }
+    requires { IsPlacedFault workspace.now.setting.grammar (present_texts_of workspace.now.kept) fault }
+    ensures told { (refusal : Refusal) → TellsRefusal fault refusal → IfOk result (IsRefusalText workspace.now.setting.grammar (present_texts_of workspace.now.kept) refusal) }
     ensures starved { fault ≡ RenameFault.NoMemory → IfOk result (λ _. ⊥) }
 {
     match fault {

@@ -39,11 +39,11 @@ pub(crate) fn serve<F: Store, L: Ledger>(
     store: &mut F,
     steps: &mut Steps<L>,
 ) -> Result<Served, NoMemory>
-    ensures served { IfOk result (λ served. IsServedBy (F.files store.old) (F.count store.old) (F.count store.new) workspace.old.grammar (standing_of workspace.old phase)
+    ensures served { IfOk result (λ served. IsServedBy (F.files store.old) (F.count store.old) (F.count store.new) workspace.old.setting (standing_of workspace.old phase)
         message (standing_of workspace.new served.told.phase) (served.told.replies ++ map as_reply served.lists) served.told.ended) }
     ensures ordered { IfOk result (λ served. All HasOrderedEdits served.told.replies) }
-    ensures cut_short { OnErr result (IsCutShort workspace.old.grammar (standing_of workspace.old phase) message (standing_of workspace.new phase)) }
-    ensures grammar { workspace.new.grammar ≡ workspace.old.grammar }
+    ensures cut_short { OnErr result (IsCutShort workspace.old.setting (standing_of workspace.old phase) message (standing_of workspace.new phase)) }
+    ensures setting { workspace.new.setting ≡ workspace.old.setting }
     ensures files { F.files store.new ≡ F.files store.old }
 {
     let told = answer(alloc, workspace, phase, message, store, steps)?;
@@ -62,8 +62,8 @@ fn answer<F: Store, L: Ledger>(
     steps: &mut Steps<L>,
 ) -> Result<Told, NoMemory>
     ensures answered { IfOk result (IsAnsweredBy (F.files store.old) (F.count store.old) (F.count store.new) workspace.old workspace.new phase message) }
-    ensures cut_short { OnErr result (IsCutShort workspace.old.grammar (standing_of workspace.old phase) message (standing_of workspace.new phase)) }
-    ensures grammar { workspace.new.grammar ≡ workspace.old.grammar }
+    ensures cut_short { OnErr result (IsCutShort workspace.old.setting (standing_of workspace.old phase) message (standing_of workspace.new phase)) }
+    ensures setting { workspace.new.setting ≡ workspace.old.setting }
     ensures files { F.files store.new ≡ F.files store.old }
 {
     match decide(alloc, phase, message)? {
@@ -88,7 +88,7 @@ fn build<L: Ledger>(
 ) -> Result<Items<Published>, NoMemory>
     ensures built { IfOk result (λ lists. (m : Documents) → Agrees workspace.old m → IsBuiltBehind workspace.old workspace.new phase m lists) }
     ensures refused { OnErr result (workspace.new ≡ workspace.old) }
-    ensures grammar { workspace.new.grammar ≡ workspace.old.grammar }
+    ensures setting { workspace.new.setting ≡ workspace.old.setting }
 {
     if !phase.initialized {
         return Ok(Items::new(alloc));

@@ -81,7 +81,7 @@ impl Session {
     /// one way, as is each that [`compile`](lw_lang::compile) hands out.
     pub fn new(alloc: Global, language: Language, mode: Mode) -> Result<Session, NoMemory>
         requires { IsReadOneWay language.grammar }
-        ensures grammar { IfOk result (λ session. session.grammar ≡ language.grammar) }
+        ensures setting { IfOk result (λ session. session.setting ≡ language.grammar) }
         ensures standing { IfOk result (λ session. session.standing ≡ beginning []) }
     {
         Ok(Session {
@@ -97,7 +97,7 @@ impl Session {
     /// Its documents, linked with one another.
     pub fn workspace(&self) -> &Workspace
         ensures documents { documents result.now ≡ self.now.standing.documents }
-        ensures grammar { result.now.grammar ≡ self.now.grammar }
+        ensures setting { result.now.setting ≡ self.now.setting }
     {
         &self.workspace
     }
@@ -113,7 +113,7 @@ impl Session {
         ensures fits { OnOk result ((length text ≤ LONGEST_TEXT) × HasRoom self.old.standing.documents uri.now) }
         ensures fault { IfErr result (IsLoadFault self.old.standing.documents uri.now text) }
         ensures refused { OnErr result (self.new ≡ self.old) }
-        ensures grammar { self.new.grammar ≡ self.old.grammar }
+        ensures setting { self.new.setting ≡ self.old.setting }
     {
         self.workspace.agrees();
         let outcome = self.workspace.put(uri, text, None, false);
@@ -146,10 +146,10 @@ impl Session {
         store: &mut F,
         steps: &mut Steps<L>,
     ) -> Result<Handled, NoMemory>
-        ensures handles { IfOk result (λ handled. HandlesBody self.old.grammar self.old.standing body.now (F.files store.old) (F.count store.old)
+        ensures handles { IfOk result (λ handled. HandlesBody self.old.setting self.old.standing body.now (F.files store.old) (F.count store.old)
             (F.count store.new) self.new.standing handled.replies handled.ended) }
-        ensures cut_short { OnErr result (IsCutShort self.old.grammar self.old.standing (message_of body.now) self.new.standing) }
-        ensures grammar { self.new.grammar ≡ self.old.grammar }
+        ensures cut_short { OnErr result (IsCutShort self.old.setting self.old.standing (message_of body.now) self.new.standing) }
+        ensures setting { self.new.setting ≡ self.old.setting }
         ensures files { F.files store.new ≡ F.files store.old }
     {
         let message = read_message(self.alloc, body)?;

@@ -27,9 +27,9 @@ pub(crate) fn watch<F: Store>(
     requires { IsLive phase }
     ensures answered { IfOk result (IsAnsweredBy (F.files store.old) (F.count store.old) (F.count store.new) workspace.old workspace.new phase
         (message_.DidChangeWatchedFiles changes.now)) }
-    ensures cut_short { OnErr result (IsCutShort workspace.old.grammar (standing_of workspace.old phase) (message_.DidChangeWatchedFiles changes.now)
+    ensures cut_short { OnErr result (IsCutShort workspace.old.setting (standing_of workspace.old phase) (message_.DidChangeWatchedFiles changes.now)
         (standing_of workspace.new phase)) }
-    ensures grammar { workspace.new.grammar ≡ workspace.old.grammar }
+    ensures setting { workspace.new.setting ≡ workspace.old.setting }
     ensures files { F.files store.new ≡ F.files store.old }
 {
     workspace.agrees();
@@ -50,9 +50,9 @@ fn see_all<F: Store>(
     store: &mut F,
 ) -> Result<Items<Reply>, NoMemory>
     ensures sees { IfOk result (IsDoneByReads (F.files store.old) (F.count store.old) (F.count store.new) workspace.old workspace.new
-        (λ m. SeesChanges workspace.old.grammar m changes.now)) }
+        (λ m. SeesChanges workspace.old.setting m changes.now)) }
     ensures in_part { OnErr result (AreSeenInPart workspace.old workspace.new changes.now) }
-    ensures grammar { workspace.new.grammar ≡ workspace.old.grammar }
+    ensures setting { workspace.new.setting ≡ workspace.old.setting }
     ensures files { F.files store.new ≡ F.files store.old }
 {
     let mut replies = Items::new(alloc);
@@ -71,9 +71,9 @@ fn see<F: Store>(
     store: &mut F,
 ) -> Result<Items<Reply>, NoMemory>
     ensures sees { IfOk result (IsDoneByReads (F.files store.old) (F.count store.old) (F.count store.new) workspace.old workspace.new
-        (λ m. SeesChange workspace.old.grammar m change.now.uri change.now.kind)) }
-    ensures lost { OnErr result (MayBeDone workspace.old workspace.new (λ m. SeesChange workspace.old.grammar m change.now.uri change.now.kind)) }
-    ensures grammar { workspace.new.grammar ≡ workspace.old.grammar }
+        (λ m. SeesChange workspace.old.setting m change.now.uri change.now.kind)) }
+    ensures lost { OnErr result (MayBeDone workspace.old workspace.new (λ m. SeesChange workspace.old.setting m change.now.uri change.now.kind)) }
+    ensures setting { workspace.new.setting ≡ workspace.old.setting }
     ensures files { F.files store.new ≡ F.files store.old }
 {
     if workspace.is_open(&change.uri) {
@@ -95,9 +95,9 @@ fn load_again<F: Store>(
     store: &mut F,
 ) -> Result<Items<Reply>, NoMemory>
     ensures loads { IfOk result (IsDoneByReads (F.files store.old) (F.count store.old) (F.count store.new) workspace.old workspace.new
-        (λ m. LoadsAgain workspace.old.grammar m address.now)) }
-    ensures lost { OnErr result (MayBeDone workspace.old workspace.new (λ m. LoadsAgain workspace.old.grammar m address.now)) }
-    ensures grammar { workspace.new.grammar ≡ workspace.old.grammar }
+        (λ m. LoadsAgain workspace.old.setting m address.now)) }
+    ensures lost { OnErr result (MayBeDone workspace.old workspace.new (λ m. LoadsAgain workspace.old.setting m address.now)) }
+    ensures setting { workspace.new.setting ≡ workspace.old.setting }
     ensures files { F.files store.new ≡ F.files store.old }
 {
     match find_file(alloc, store, address)? {

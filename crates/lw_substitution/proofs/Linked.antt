@@ -15,6 +15,7 @@ use Rattle.lw_scoping.specs.Outward.{LeadsOut, outermost, inner}
 use Rattle.lw_scoping.specs.Firsts.{IsFirstIn, found, none}
 use Rattle.lw_scoping.specs.Links.{Trees, Link, Fits, IsOwn, FitsThere, LinksTo, own, out, nowhere}
 use Rattle.lw_substitution.specs.OneName.{AreAlikeTrees, IsAlikeNode, name_said}
+use Rattle.lw_scoping.specs.Rules.{Rules}
 
 -- what links depend on: the nodes and their names
 pub record LookAlike (tree other : Parts) : Type 0 where
@@ -151,7 +152,7 @@ look_same tree = record { nodes = all tree.nodes; named = λ n. refl }
     all [] = tt
     all (n ∷ ns) = (record { type_id = refl; container = refl; prop = refl }, all ns)
 
-module _ (below : ℕ → ℕ → Type 0) where
+module _ (rules : Rules) where
   tree_there : (tree other : Parts) (a b : Option Parts) (x : Parts) → LookAlike tree other → AreAlikeThere tree other a b → a ≡ Some x →
       (y : Parts) × (b ≡ Some y) × LookAlike x y
   tree_there tree other a b x like (inl same) is = (x, sym same ∙ is, look_same x)
@@ -159,18 +160,18 @@ module _ (below : ℕ → ℕ → Type 0) where
       (other, two, subst (λ (z : Parts). LookAlike z other) (same_Some tree x (sym one ∙ is)) like)
 
   fits_there : {trees others : Trees} {tree other : Parts} {r s : Reference} (place : List ℕ × ℕ) → LookAlike tree other →
-      ((a : List ℕ) → AreAlikeThere tree other (trees a) (others a)) → WantAlike r s → FitsThere below trees r place → FitsThere below others s place
+      ((a : List ℕ) → AreAlikeThere tree other (trees a) (others a)) → WantAlike r s → FitsThere rules.below trees r place → FitsThere rules.below others s place
   fits_there {trees} {others} {tree} {other} place like all want (x, is, has, fits) =
       let (y, there, looks) = tree_there tree other (trees place.0) (others place.0) x like (all place.0) is in
-      (y, there, subst (λ (xs : List ℕ). Contains xs place.1) (exports_too looks) has, fits_too looks below want fits)
+      (y, there, subst (λ (xs : List ℕ). Contains xs place.1) (exports_too looks) has, fits_too looks rules.below want fits)
 
   pub link_too : {trees others : Trees} {tree other : Parts} {r s : Reference} (address : List ℕ) (link : Link) → LookAlike tree other →
-      ((a : List ℕ) → AreAlikeThere tree other (trees a) (others a)) → WantAlike r s → LinksTo below trees address tree r link →
-      LinksTo below others address other s link
-  link_too address link like all want (own is) = own (own_too like below want is)
+      ((a : List ℕ) → AreAlikeThere tree other (trees a) (others a)) → WantAlike r s → LinksTo rules trees address tree r link →
+      LinksTo rules others address other s link
+  link_too address link like all want (own is) = own (own_too like rules.below want is)
   link_too {trees} {others} {tree} {other} address link like all want (out {place} is fits least) =
-      out (own_too like below want is) (fits_there place like all want fits)
+      out (own_too like rules.below want is) (fits_there place like all want fits)
       (λ to was. least to (fits_there to (look_back like) (λ a. there_back tree other (trees a) (others a) (all a)) (want_back want) was))
   link_too {trees} {others} {tree} {other} address link like all want (nowhere is misses) =
-      nowhere (own_too like below want is)
+      nowhere (own_too like rules.below want is)
       (λ to was. misses to (fits_there to (look_back like) (λ a. there_back tree other (trees a) (others a) (all a)) (want_back want) was))

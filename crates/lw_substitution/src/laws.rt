@@ -4,6 +4,7 @@ ghost use Rattle.lw_base.specs.declared.numbers.PropId.{PropId};
 ghost use Rattle.lw_base.specs.declared.token.Token.{Token};
 ghost use Rattle.lw_grammar.specs.declared.fault.GrammarFault.{GrammarFault};
 ghost use Rattle.lw_grammar.specs.declared.grammar.Grammar.{Grammar};
+ghost use Rattle.lw_link_rules.specs.Setting.{Setting};
 ghost use Rattle.lw_grammar.specs.Kinds.{Kinds};
 ghost use Rattle.lw_faults.specs.Faults.{IsCheckFault, IsTypeFault};
 ghost use Rattle.lw_reading.specs.Brackets.{Bracket};
@@ -14,7 +15,7 @@ ghost use Rattle.lw_reading.specs.Trees.{IsOpenedTree, IsTree};
 ghost use Rattle.lw_reading.specs.Worked.{begun_tree, state_text, state_tree};
 ghost use Rattle.lw_reading.specs.Growing.{ReadMarks};
 ghost use Rattle.lw_reading.specs.Within.{StandInRow};
-ghost use Rattle.lw_link_rules.specs.Links.{IsNumberBelow};
+ghost use Rattle.lw_link_rules.specs.Links.{rules_of};
 ghost use Rattle.lw_scoping.specs.Links.{Trees};
 ghost use Rattle.lw_grammar.specs.Marks.{Mark, kinds_of};
 ghost use Rattle.lw_grammar.specs.Sentences.{IsSentence};
@@ -86,8 +87,8 @@ pub fn trees_differ_in_one_name()
 /// The place at which names differ is the number of references in the tree of what stands before, where the reference itself is not left out of
 /// what is opened there. It depends on what the tokens there say alone, and there is one wherever marks are followed over the reference.
 pub fn references_before_give_the_place()
-    ensures front { (g : Grammar) (of : Kinds) (front : List ℕ) (tokens : List Token) (next : ReferenceNext) (tree : Parts) (r : Reference) →
-        IsFrontTree g of front tokens next tree r → IsReferencePlace g front next (visible tokens) (length tree.refs) }
+    ensures front { (setting : Setting) (of : Kinds) (front : List ℕ) (tokens : List Token) (next : ReferenceNext) (tree : Parts) (r : Reference) →
+        IsFrontTree setting of front tokens next tree r → IsReferencePlace setting.grammar front next (visible tokens) (length tree.refs) }
     ensures texts { (g : Grammar) (text other : List ℕ) (next : ReferenceNext) (front fore : List Token) (place : ℕ) → AreSameTokens text other front fore →
         IsReferencePlace g text next front place → IsReferencePlace g other next fore place }
     ensures there { (g : Grammar) (text : List ℕ) (next : ReferenceNext) (after : List Mark) (front mid rest : List Token) (bs : List Bracket) →
@@ -132,37 +133,37 @@ pub fn blank_references_have_trees()
 
 /// References of one node that want one type lead somewhere by the same names in trees that are alike.
 pub fn alike_trees_answer_alike()
-    ensures target { (g : Grammar) (trees : Trees) (address : List ℕ) (place : ℕ) (tree other : Parts) (r s : Reference) (name : List ℕ) →
+    ensures target { (setting : Setting) (trees : Trees) (address : List ℕ) (place : ℕ) (tree other : Parts) (r s : Reference) (name : List ℕ) →
         AreAlikeTrees place tree other → r.owner ≡ s.owner → r.want ≡ s.want →
-        (HasTarget (IsNumberBelow g) trees address tree (renamed_to name r) ↔ HasTarget (IsNumberBelow g) trees address other (renamed_to name s)) }
-    ensures visible { (g : Grammar) (trees : Trees) (address : List ℕ) (place : ℕ) (tree other : Parts) (r s : Reference) (names : List (List ℕ)) →
-        AreAlikeTrees place tree other → r.owner ≡ s.owner → r.want ≡ s.want → AreVisible (IsNumberBelow g) trees address tree r names →
-        AreVisible (IsNumberBelow g) trees address other s names }
+        (HasTarget (rules_of setting) trees address tree (renamed_to name r) ↔ HasTarget (rules_of setting) trees address other (renamed_to name s)) }
+    ensures visible { (setting : Setting) (trees : Trees) (address : List ℕ) (place : ℕ) (tree other : Parts) (r s : Reference) (names : List (List ℕ)) →
+        AreAlikeTrees place tree other → r.owner ≡ s.owner → r.want ≡ s.want → AreVisible (rules_of setting) trees address tree r names →
+        AreVisible (rules_of setting) trees address other s names }
 {}
 
 /// A text in which a reference is left blank is read once for all names. Whatever name is written there, with whatever tokens, the text has a tree
 /// that is like the blank one. At the place of the reference stands the one that was read, and it leads somewhere just when the blank one, by the
 /// name that is looked up, does so in the blank tree.
 pub fn a_blank_tree_answers_for_each_name()
-    ensures there { (g : Grammar) (of : Kinds) (lexicon : Lexicon) (front name rest : List ℕ) (tokens added all : List Token) (next : ReferenceNext)
+    ensures there { (setting : Setting) (of : Kinds) (lexicon : Lexicon) (front name rest : List ℕ) (tokens added all : List Token) (next : ReferenceNext)
         (before blank : Parts) (s r : Reference) → MakesReference next.op next.value → StandInRow front 0 (visible tokens) →
-        IsFrontTree g of front tokens next before s → (is : IsBlankTree g of lexicon front rest tokens next before blank r) →
-        (tree : Parts) × IsTree g (front ++ name ++ rest) (marks_with next (kinds added) ++ is.after)
+        IsFrontTree setting of front tokens next before s → (is : IsBlankTree setting of lexicon front rest tokens next before blank r) →
+        (tree : Parts) × IsTree setting.grammar (front ++ name ++ rest) (marks_with next (kinds added) ++ is.after)
         (visible tokens ++ added ++ visible (map (moved_by (length (front ++ name))) is.others)) all tree }
-    ensures alike { (g : Grammar) (of : Kinds) (lexicon : Lexicon) (front name rest : List ℕ) (tokens added all : List Token) (next : ReferenceNext)
+    ensures alike { (setting : Setting) (of : Kinds) (lexicon : Lexicon) (front name rest : List ℕ) (tokens added all : List Token) (next : ReferenceNext)
         (before blank tree : Parts) (s r : Reference) → MakesReference next.op next.value → StandInRow front 0 (visible tokens) →
-        IsFrontTree g of front tokens next before s → (is : IsBlankTree g of lexicon front rest tokens next before blank r) →
-        IsTree g (front ++ name ++ rest) (marks_with next (kinds added) ++ is.after)
+        IsFrontTree setting of front tokens next before s → (is : IsBlankTree setting of lexicon front rest tokens next before blank r) →
+        IsTree setting.grammar (front ++ name ++ rest) (marks_with next (kinds added) ++ is.after)
         (visible tokens ++ added ++ visible (map (moved_by (length (front ++ name))) is.others)) all tree →
         AreAlikeTrees (length before.refs) blank tree }
-    ensures answers { (g : Grammar) (of : Kinds) (lexicon : Lexicon) (front name rest : List ℕ) (tokens added all : List Token) (next : ReferenceNext)
+    ensures answers { (setting : Setting) (of : Kinds) (lexicon : Lexicon) (front name rest : List ℕ) (tokens added all : List Token) (next : ReferenceNext)
         (before blank tree : Parts) (s r : Reference) → MakesReference next.op next.value → StandInRow front 0 (visible tokens) →
-        IsFrontTree g of front tokens next before s → (is : IsBlankTree g of lexicon front rest tokens next before blank r) →
-        IsTree g (front ++ name ++ rest) (marks_with next (kinds added) ++ is.after)
+        IsFrontTree setting of front tokens next before s → (is : IsBlankTree setting of lexicon front rest tokens next before blank r) →
+        IsTree setting.grammar (front ++ name ++ rest) (marks_with next (kinds added) ++ is.after)
         (visible tokens ++ added ++ visible (map (moved_by (length (front ++ name))) is.others)) all tree →
-        (found : Reference) × (slice_get tree.refs (length before.refs) ≡ Some found) × IsReferenceFrom g (front ++ name ++ rest) next added found
+        (found : Reference) × (slice_get tree.refs (length before.refs) ≡ Some found) × IsReferenceFrom setting.grammar (front ++ name ++ rest) next added found
         × ((trees : Trees) (address : List ℕ) →
-        HasTarget (IsNumberBelow g) trees address blank (renamed_to found.name r) ↔ HasTarget (IsNumberBelow g) trees address tree found) }
+        HasTarget (rules_of setting) trees address blank (renamed_to found.name r) ↔ HasTarget (rules_of setting) trees address tree found) }
 {}
 
 /// `model m state x to target end` differs from `model m state x to x end` in the name of the one reference, and in no other name. A tree in which

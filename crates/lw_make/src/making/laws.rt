@@ -1,6 +1,6 @@
 // What a reader would expect of the definitions: the function has no body and says one law.
 ghost use Rattle.std.specs.Prelude.{◌≡◌, ℕ, List};
-ghost use Rattle.lw_grammar.specs.declared.grammar.Grammar.{Grammar};
+ghost use Rattle.lw_link_rules.specs.Setting.{Setting};
 ghost use Rattle.lw_machine.specs.Documents.{Documents};
 ghost use Rattle.lw_machine.specs.declared.published.Published.{Published};
 ghost use Rattle.lw_make.specs.Making.{IsMade};
@@ -10,7 +10,7 @@ ghost use Rattle.lw_reading.specs.Laws.{IsReadOneWay};
 
 /// By a grammar by which a text is read in one way, a workspace of so many comes to the same documents, lists and summary, whoever makes it.
 pub fn one_summary()
-    ensures { (g : Grammar) → IsReadOneWay g → (count : ℕ) (m n : Documents) (lists others : List Published) (summary other : OneSummary) →
-        IsMade g count m lists → IsMade g count n others → IsSummary g m lists summary → IsSummary g n others other →
+    ensures { (setting : Setting) → IsReadOneWay setting.grammar → (count : ℕ) (m n : Documents) (lists others : List Published) (summary other : OneSummary) →
+        IsMade setting count m lists → IsMade setting count n others → IsSummary setting m lists summary → IsSummary setting n others other →
         (m ≡ n) × (lists ≡ others) × (summary ≡ other) }
 {}

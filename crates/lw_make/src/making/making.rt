@@ -10,6 +10,7 @@ ghost use Rattle.lw_make.specs.Making.{AreEdited, IsMade, with_made};
 ghost use Rattle.lw_make.specs.Summaries.{IsSummary};
 ghost use Rattle.lw_make.specs.Unedited.{AreUnedited};
 ghost use Rattle.lw_reading.specs.Laws.{IsReadOneWay};
+ghost use Rattle.lw_lang.specs.Language.{setting_of};
 
 use crate::making::summary::{Summary, added, summary_of};
 use crate::{
@@ -39,9 +40,9 @@ pub fn make<L: Ledger>(
 ) -> Result<MadeWorkspace, NoMemory>
     requires greatest { count ≤ GREATEST_WORKSPACE }
     requires one_way { IsReadOneWay language.grammar }
-    ensures made { IfOk result (λ made. (lists : List Published) × IsMade language.grammar count (documents made.workspace) lists
-        × IsSummary language.grammar (documents made.workspace) lists made.summary) }
-    ensures grammar { IfOk result (λ made. made.workspace.grammar ≡ language.grammar) }
+    ensures made { IfOk result (λ made. (lists : List Published) × IsMade (setting_of language) count (documents made.workspace) lists
+        × IsSummary (setting_of language) (documents made.workspace) lists made.summary) }
+    ensures setting { IfOk result (λ made. made.workspace.setting ≡ language.grammar) }
     ensures built { IfOk result (λ made. made.workspace.is_built ≡ true) }
 {
     addresses_are_distinct();
@@ -58,7 +59,7 @@ fn put_all(alloc: Global, workspace: &mut Workspace, count: u32) -> Result<(), N
     requires greatest { count ≤ GREATEST_WORKSPACE }
     requires empty { workspace.old.kept ≡ empty }
     ensures stands { OnOk result (Agrees workspace.new (with_made count empty (range_with_len 0 count))) }
-    ensures grammar { workspace.new.grammar ≡ workspace.old.grammar }
+    ensures setting { workspace.new.setting ≡ workspace.old.setting }
 {
     workspace.agrees();
     'documents: for document in 0..count {
@@ -78,7 +79,7 @@ fn put_one(
     requires greatest { count ≤ GREATEST_WORKSPACE }
     requires stands { Agrees workspace.old (with_made count empty (range_with_len 0 document)) }
     ensures stands { OnOk result (Agrees workspace.new (with_made count empty (range_with_len 0 (document + 1)))) }
-    ensures grammar { workspace.new.grammar ≡ workspace.old.grammar }
+    ensures setting { workspace.new.setting ≡ workspace.old.setting }
 {
     let address = made_address(alloc, document)?;
     let text = made_text(alloc, document, count)?;
@@ -110,10 +111,10 @@ fn edit_all<L: Ledger>(
     requires unedited { AreUnedited count 0 (documents workspace.old) }
     requires built { workspace.old.is_built ≡ true }
     ensures edited { IfOk result (λ published. (lists : List Published)
-        × AreEdited workspace.old.grammar (documents workspace.old) (range_with_len 0 (spec.edit_count count)) (documents workspace.new) lists
+        × AreEdited workspace.old.setting (documents workspace.old) (range_with_len 0 (spec.edit_count count)) (documents workspace.new) lists
         × (published ≡ first + length lists)) }
     ensures built { OnOk result (workspace.new.is_built ≡ true) }
-    ensures grammar { workspace.new.grammar ≡ workspace.old.grammar }
+    ensures setting { workspace.new.setting ≡ workspace.old.setting }
 {
     let mut published = first;
     'edits: for number in 0..edit_count(count) {
@@ -135,10 +136,10 @@ fn edit_one<L: Ledger>(
     requires greatest { count ≤ GREATEST_WORKSPACE }
     requires unedited { AreUnedited count number (documents workspace.old) }
     ensures edited { IfOk result (λ told. (lists : List Published)
-        × AreEdited workspace.old.grammar (documents workspace.old) (number ∷ []) (documents workspace.new) lists × (told ≡ length lists)) }
+        × AreEdited workspace.old.setting (documents workspace.old) (number ∷ []) (documents workspace.new) lists × (told ≡ length lists)) }
     ensures unedited { OnOk result (AreUnedited count (number + 1) (documents workspace.new)) }
     ensures built { OnOk result (workspace.new.is_built ≡ true) }
-    ensures grammar { workspace.new.grammar ≡ workspace.old.grammar }
+    ensures setting { workspace.new.setting ≡ workspace.old.setting }
 {
     addresses_are_distinct();
     edits_go_behind_the_model();

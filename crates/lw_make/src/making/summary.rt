@@ -108,7 +108,7 @@ pub(crate) fn summary_of(
 ) -> Result<Summary, NoMemory>
     requires { workspace.now.is_built ≡ true }
     ensures { IfOk result (λ summary. (lists : List Published) → length lists ≡ published →
-        IsSummary workspace.now.grammar (documents workspace.now) lists summary) }
+        IsSummary workspace.now.setting (documents workspace.now) lists summary) }
 {
     let mut summary = Summary {
         documents: 0,

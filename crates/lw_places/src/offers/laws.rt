@@ -1,6 +1,6 @@
 // What a reader may expect of offers, whatever the grammar and the texts.
 ghost use Rattle.std.specs.Prelude.{◌≡◌, ◌⊎◌, ◌++◌, ℕ, Bool, List, Contains, take};
-ghost use Rattle.lw_grammar.specs.declared.grammar.Grammar.{Grammar};
+ghost use Rattle.lw_link_rules.specs.Setting.{Setting};
 ghost use Rattle.lw_reading.specs.Laws.{IsReadOneWay};
 ghost use Rattle.lw_link_rules.specs.Links.{Texts};
 ghost use Rattle.lw_scoping.specs.Links.{ByTest, Trees};
@@ -13,16 +13,16 @@ ghost use Rattle.lw_places.specs.Words.{BeginsBy, IsTypedAt};
 /// By a grammar by which a text is read in one way there is one list of offers at most at an offset of a document. A reference has one list
 /// at most of names by which it leads somewhere.
 pub fn one_list()
-    ensures offers { (g : Grammar) → IsReadOneWay g → (texts : Texts) (address text : List ℕ) (offset : ℕ) (offers others : List Offer) →
-        AreOffers g texts address text offset offers → AreOffers g texts address text offset others → offers ≡ others }
+    ensures offers { (setting : Setting) → IsReadOneWay setting.grammar → (texts : Texts) (address text : List ℕ) (offset : ℕ) (offers others : List Offer) →
+        AreOffers setting texts address text offset offers → AreOffers setting texts address text offset others → offers ≡ others }
     ensures visible { (is_below : ℕ → ℕ → Bool) (trees : Trees) (address : List ℕ) (tree : Parts) (r : Reference) (names others : List (List ℕ)) →
         AreVisible (ByTest is_below) trees address tree r names → AreVisible (ByTest is_below) trees address tree r others → names ≡ others }
 {}
 
 /// What is offered begins with the word that ends at the offset, and is a keyword or a name that may be read there.
 pub fn words_go_on()
-    ensures { (g : Grammar) (texts : Texts) (address text : List ℕ) (offset : ℕ) (offers : List Offer) (offer : Offer) →
-        AreOffers g texts address text offset offers → Contains offers offer →
+    ensures { (setting : Setting) (texts : Texts) (address text : List ℕ) (offset : ℕ) (offers : List Offer) (offer : Offer) →
+        AreOffers setting texts address text offset offers → Contains offers offer →
         (front : List ℕ) × (word : List ℕ) × (take offset text ≡ front ++ word) × BeginsBy word offer.label × ((offer.kind ≡ 14) ⊎ (offer.kind ≡ 18)) }
 {}
 

@@ -3,11 +3,12 @@ ghost use Rattle.std.specs.Prelude.{ℕ, ◌≡◌, ◌≢◌, ◌<◌, ◌≤�
 ghost use Rattle.lw_base.specs.declared.limits.TheConstants.{LONGEST_DOCUMENT};
 ghost use Rattle.lw_base.specs.declared.token.Token.{Token};
 ghost use Rattle.lw_grammar.specs.declared.grammar.Grammar.{Grammar};
+ghost use Rattle.lw_link_rules.specs.Setting.{Setting};
 ghost use Rattle.lw_grammar.specs.Kinds.{AreKinds, Kinds};
 ghost use Rattle.lw_reading.specs.Brackets.{span_of_tokens};
 ghost use Rattle.lw_reading.specs.Follows.{LooksUp, MakesReference, RefersBy};
 ghost use Rattle.lw_reading.specs.Laws.{IsReadOneWay};
-ghost use Rattle.lw_link_rules.specs.Links.{IsNumberBelow};
+ghost use Rattle.lw_link_rules.specs.Links.{rules_of};
 ghost use Rattle.lw_scoping.specs.Links.{Trees};
 ghost use Rattle.lw_grammar.specs.Marks.{Mark, kinds_of};
 ghost use Rattle.lw_grammar.specs.Sentences.{IsSentence};
@@ -25,17 +26,17 @@ ghost use Rattle.lw_substitution.specs.Around.{IsCutAround};
 /// tree of the text has a reference there. One that has a target is found in a tree of the text just when the blank reference, by that name, has one
 /// in the blank tree.
 pub fn a_name_is_judged_by_the_blank_tree()
-    ensures some { (g : Grammar) (of : Kinds) (lexicon : Lexicon) (trees : Trees) (address front name rest : List ℕ) (tokens added others : List Token)
-        (next : ReferenceNext) (before blank : Parts) (s r : Reference) (wanted rule : List ℕ) → IsReadOneWay g → AreKinds g of → IsLexicon g of lexicon →
+    ensures some { (setting : Setting) (of : Kinds) (lexicon : Lexicon) (trees : Trees) (address front name rest : List ℕ) (tokens added others : List Token)
+        (next : ReferenceNext) (before blank : Parts) (s r : Reference) (wanted rule : List ℕ) → IsReadOneWay setting.grammar → AreKinds setting.grammar of → IsLexicon setting.grammar of lexicon →
         length (front ++ name ++ rest) ≤ LONGEST_DOCUMENT → IsCutAround lexicon front name rest tokens added others → IsCut lexicon rest others →
-        ComesNext g of tokens next → IsFrontTree g of front tokens next before s → (is : IsBlankTree g of lexicon front rest tokens next before blank r) →
-        IsSentence g of (marks_with next (kinds (visible added)) ++ is.after) → RefersBy g next.value wanted rule →
-        LooksUp g (front ++ name) rule (visible added) name →
+        ComesNext setting of tokens next → IsFrontTree setting of front tokens next before s → (is : IsBlankTree setting of lexicon front rest tokens next before blank r) →
+        IsSentence setting.grammar of (marks_with next (kinds (visible added)) ++ is.after) → RefersBy setting.grammar next.value wanted rule →
+        LooksUp setting.grammar (front ++ name) rule (visible added) name →
         span_of_tokens (visible added) ≡ record { start = length front; end = length front + length name } → visible added ≢ [] →
-        ((tree : Parts) × (found : Reference) × HasReferenceAt g (front ++ name ++ rest) (length front) (length front + length name) tree found)
-        × (((tree : Parts) × (found : Reference) × HasReferenceAt g (front ++ name ++ rest) (length front) (length front + length name) tree found
-        × HasTarget (IsNumberBelow g) trees address tree found)
-        ↔ HasTarget (IsNumberBelow g) trees address blank (renamed_to name r)) }
+        ((tree : Parts) × (found : Reference) × HasReferenceAt setting.grammar (front ++ name ++ rest) (length front) (length front + length name) tree found)
+        × (((tree : Parts) × (found : Reference) × HasReferenceAt setting.grammar (front ++ name ++ rest) (length front) (length front + length name) tree found
+        × HasTarget (rules_of setting) trees address tree found)
+        ↔ HasTarget (rules_of setting) trees address blank (renamed_to name r)) }
 {}
 
 /// Where no token reaches over an end of the name, and no sentence of the text reads the tokens of the name as one reference, or they do not span the

@@ -8,10 +8,10 @@ use Rattle.lw_alone.proofs.document.diagnostics.Goals as goal
 
 pub returns-in_ok-push-in-Broken : goal.returns-in_ok-push-in-Broken
 returns-in_ok-push-in-Broken c address =
-    let g = c.args.language.now.grammar in
+    let setting = c.args.language.now.grammar in
     let issue = c.in-Broken.issue in
     let shown : Shown = c.in_ok-issue_diagnostic-in-Broken.field-0 in
-    let reads : Reads g c.args.document.now (Broken issue) = subst (Reads g c.args.document.now) c.in-Broken.is c.requires.reads in
+    let reads : Reads setting.grammar c.args.document.now (Broken issue) = subst (Reads setting.grammar c.args.document.now) c.in-Broken.is c.requires.reads in
     let one = c.in_ok-push-in-Broken.ensures.ok ∙ ap (λ (list : List Shown). list ++ shown ∷ []) c.new-list.ensures in
-    subst (IsListAlone g address c.args.document.now) (sym one)
-    (broken_alone g address c.args.document.now issue shown reads (c.in_ok-issue_diagnostic-in-Broken.ensures g (rw c.set.ensures c.tokens.ensures.named)))
+    subst (IsListAlone setting address c.args.document.now) (sym one)
+    (broken_alone setting address c.args.document.now issue shown reads (c.in_ok-issue_diagnostic-in-Broken.ensures setting (rw c.set.ensures c.tokens.ensures.named)))

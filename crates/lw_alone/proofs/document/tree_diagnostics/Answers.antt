@@ -2,7 +2,7 @@ use Rattle.std.proofs.Common.{ap, length, sym, map, subst, ◌∙◌}
 use Rattle.std.specs.List.{AllZip}
 use Rattle.lw_link.specs.Alone.{link_at}
 use Rattle.lw_link_rules.specs.Diagnostics.{alone_at}
-use Rattle.lw_link_rules.specs.Links.{IsNumberBelow}
+use Rattle.lw_link_rules.specs.Links.{rules_of}
 use Rattle.lw_scoping.specs.Links.{LinksTo}
 use Rattle.lw_alone.proofs.Alone.{listed, text_outwards, text_owners, text_root, text_types}
 use Rattle.lw_alone.proofs.document.tree_diagnostics.Goals as goal
@@ -31,8 +31,8 @@ diagnostics_alone-requires c = record {
 
 pub returns : goal.returns
 returns c address =
-    let g = c.args.language.now.grammar in
+    let setting = c.args.language.now.grammar in
     let tree = c.args.tree.now in
-    let links = subst (λ found. AllZip (LinksTo (IsNumberBelow g) (alone_at address tree) address tree) tree.refs (map (link_at address) found)) (sym c.as_slice.ensures.value)
-    (c.in_ok-found.ensures.links g address c.types-types.ensures) in
-    listed g address c.args.document.now tree c.requires.reads c.diagnostics_alone.result (c.diagnostics_alone.ensures g address c.types-types.ensures links)
+    let links = subst (λ found. AllZip (LinksTo (rules_of setting) (alone_at address tree) address tree) tree.refs (map (link_at address) found)) (sym c.as_slice.ensures.value)
+    (c.in_ok-found.ensures.links setting address c.types-types.ensures) in
+    listed setting address c.args.document.now tree c.requires.reads c.diagnostics_alone.result (c.diagnostics_alone.ensures setting address c.types-types.ensures links)

@@ -1,5 +1,5 @@
 use Rattle.std.proofs.Common.{◌≡◌, [], ◌∷◌, ◌++◌, List, ℕ, Option, Some, sym, ap, subst, subst₂, ◌∙◌}
-use Rattle.lw_grammar.specs.declared.grammar.Grammar.{Grammar}
+use Rattle.lw_link_rules.specs.Setting.{Setting}
 use Rattle.lw_index.specs.declared.parts.Answer.{Answer}
 use Rattle.lw_reading.specs.Reading.{Reads}
 use Rattle.lw_reading.specs.declared.parsed.Parsed.TheVariants.{Broken}
@@ -15,9 +15,9 @@ use Rattle.lw_build.specs.Linked.{AreLinkAnswers, IsIndexedAt}
 use Rattle.lw_build.specs.Readings.{IsReadingOfText, tree_of}
 use Rattle.lw_build.proofs.telling.check_reading.Goals as goal
 
-broken : (g : Grammar) (texts : Texts) (address text : List ℕ) (issue : Issue) (shown : Shown) → texts address ≡ Some text → Reads g text (Broken issue) →
-    IsFaultShown g text issue shown → AreDiagnostics g texts address (shown ∷ [])
-broken g texts address text issue shown there reads is = record { text = text; is_shown = there; is_list = diagnostic.broken reads is }
+broken : (setting : Setting) (texts : Texts) (address text : List ℕ) (issue : Issue) (shown : Shown) → texts address ≡ Some text → Reads setting.grammar text (Broken issue) →
+    IsFaultShown setting.grammar text issue shown → AreDiagnostics setting texts address (shown ∷ [])
+broken setting texts address text issue shown there reads is = record { text = text; is_shown = there; is_list = diagnostic.broken reads is }
 
 pub returns-in_ok-push-in-Broken-clause-checked : goal.returns-in_ok-push-in-Broken-clause-checked
 returns-in_ok-push-in-Broken-clause-checked g c texts trees address are index there here =

@@ -1,7 +1,7 @@
 use Rattle.std.proofs.Common.{◌≡◌, ℕ, List, Some, ap, length, map, sym, subst, ◌∙◌}
 use Rattle.std.specs.List.{AllZip}
 use Rattle.lw_check.specs.Sorting.{AreShown}
-use Rattle.lw_grammar.specs.declared.grammar.Grammar.{Grammar}
+use Rattle.lw_link_rules.specs.Setting.{Setting}
 use Rattle.lw_index.specs.declared.parts.Answer.{Answer}
 use Rattle.lw_link.specs.Indexed.{link_of}
 use Rattle.lw_link_rules.specs.Diagnostics as diagnostic
@@ -15,9 +15,9 @@ use Rattle.lw_build.proofs.Linked.{answers_from}
 use Rattle.lw_build.proofs.Texts.{text_outwards, text_owners, text_root, text_types}
 use Rattle.lw_build.proofs.telling.check_tree.Goals as goal
 
-told : (g : Grammar) (texts : Texts) (trees : Trees) (address text : List ℕ) (tree : Parts) → AreTreesOfTexts g texts trees → texts address ≡ Some text →
-    trees address ≡ Some tree → (list : List Shown) → AreShown g trees address tree text list → AreDiagnostics g texts address list
-told g texts trees address text tree are there is list (diagnostics, right, shown) =
+told : (setting : Setting) (texts : Texts) (trees : Trees) (address text : List ℕ) (tree : Parts) → AreTreesOfTexts setting.grammar texts trees → texts address ≡ Some text →
+    trees address ≡ Some tree → (list : List Shown) → AreShown setting trees address tree text list → AreDiagnostics setting texts address list
+told setting texts trees address text tree are there is list (diagnostics, right, shown) =
     record { text = text; is_shown = there; is_list = diagnostic.whole trees are is right shown }
 
 pub answers-requires-clause-outwards : goal.answers-requires-clause-outwards

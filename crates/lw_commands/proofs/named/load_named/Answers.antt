@@ -32,7 +32,7 @@ paths-preserved g c =
         omega (arith, length-append before.0 (next.0 ∷ []), before.2),
         one_named_more c.args.paths.now c.paths.path-index path c.paths-test.true c.path-item.is told before.0 next.0 before.3 is,
       );
-      grammar = c.in_ok-load_file.ensures.grammar ∙ c.paths.invariant.grammar;
+      setting = c.in_ok-load_file.ensures.setting ∙ c.paths.invariant.setting;
       files = c.in_ok-load_file.ensures.files ∙ c.paths.invariant.files;
       count = c.in_ok-load_file.ensures.store ∙ c.paths.invariant.count;
     }

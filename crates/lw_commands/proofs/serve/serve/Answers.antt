@@ -27,9 +27,9 @@ returns-clause-works g c =
     let paths = map (λ path. path.now) c.args.paths.now in
     let loaded = c.in_ok-load_named.ensures.loaded in
     let are = subst (λ told. IfSome told (λ files. AreFileTexts files paths loaded.0)) c.in_ok-language.ensures.files loaded.2 in
-    works_told _ c.args.root.path.now paths c.args.root.k _ _ _ _ _ _ of c.load_named.new.session.grammar c.in_ok-language.ensures.holds c.in_ok-language.ensures.clear
+    works_told _ c.args.root.path.now paths c.args.root.k _ _ _ _ _ _ of c.load_named.new.session.setting c.in_ok-language.ensures.holds c.in_ok-language.ensures.clear
     (one_session of (c.one_outcome.ensures.reads of one_way_of) (c.one_outcome.ensures.files of one_way_of)) loaded.0 are c.converse-outcome.result
-    (c.in_ok-load_named.ensures.grammar ∙ c.in_ok-session.ensures.grammar)
+    (c.in_ok-load_named.ensures.setting ∙ c.in_ok-session.ensures.setting)
     (conversed_from _ _ _ _ _ _ _ _ _ _ _ c.converse-outcome.result (c.in_ok-load_named.ensures.files ∙ c.in_ok-language.ensures.files)
     (c.in_ok-load_named.ensures.store ∙ c.in_ok-language.ensures.store) (c.converse-outcome.ensures.conversed loaded.0 loaded.1))
 

@@ -3,10 +3,11 @@ use Rattle.lw_commands.specs.Stops.{TheSource, TheSink, TheStore, ThePatterns}
 use Rattle.lw_commands.proofs.Counting.{handed_on, printed_words, unread_cause, unread_sink, unread_store, unread_patterns, printed_cause, printed_source, printed_store, printed_patterns}
 use Rattle.lw_commands.proofs.Working.{works_after, works_unbuilt, works_unread}
 use Rattle.lw_commands.proofs.top.check.Goals as goal
+use Rattle.lw_lang.specs.Language.{setting_of}
 
 pub returns-clause-works : goal.returns-clause-works
 returns-clause-works g c =
-    works_after _ _ _ _ _ _ _ _ c.in_ok-language.language.grammar c.in_ok-report.report c.print.result c.in_ok-language.ensures.holds c.in_ok-language.ensures.clear
+    works_after _ _ _ _ _ _ _ _ (setting_of c.in_ok-language.language) c.in_ok-report.report c.print.result c.in_ok-language.ensures.holds c.in_ok-language.ensures.clear
     c.in_ok-report.ensures.report c.in_ok-report.ensures.read c.print.ensures.verdict c.print.ensures.whole c.print.ensures.fault c.print.ensures.front
 
 pub returns-clause-cause : goal.returns-clause-cause

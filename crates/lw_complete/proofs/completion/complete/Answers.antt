@@ -13,18 +13,18 @@ use Rattle.lw_complete.proofs.completion.complete.Goals as goal
 
 pub returns-then-bytes-gt-LONGEST_DOCUMENT-clause-offers : goal.returns-then-bytes-gt-LONGEST_DOCUMENT-clause-offers
 returns-then-bytes-gt-LONGEST_DOCUMENT-clause-offers c texts trees address are is number =
-    let g = c.args.language.now.grammar in
+    let setting = c.args.language.now.grammar in
     let text = c.args.text.now in
     let (of, are_kinds, is_lexicon) = c.tokens.ensures.lexicon in
     let lexicon = c.tokens.result.now.lexicon in
     let long = subst (λ (bytes : List ℕ). LONGEST_DOCUMENT < length bytes) c.bytes.ensures.bytes c.if-bytes-gt-LONGEST_DOCUMENT.true in
-    subst (AreOffers g texts address text c.args.off) (sym (ap (map offer_of) c.new.ensures.items))
-    (nothing g texts trees are address text c.args.off of are_kinds lexicon is_lexicon
-    (none_in_long g texts trees are address text c.args.off of are_kinds lexicon is_lexicon long))
+    subst (AreOffers setting texts address text c.args.off) (sym (ap (map offer_of) c.new.ensures.items))
+    (nothing setting texts trees are address text c.args.off of are_kinds lexicon is_lexicon
+    (none_in_long setting texts trees are address text c.args.off of are_kinds lexicon is_lexicon long))
 
 pub returns-in-Err-NoToken-clause-offers : goal.returns-in-Err-NoToken-clause-offers
 returns-in-Err-NoToken-clause-offers c texts trees address are is number =
-    let g = c.args.language.now.grammar in
+    let setting = c.args.language.now.grammar in
     let text = c.args.text.now in
     let off = c.args.off in
     let (of, are_kinds, is_lexicon) = c.tokens.ensures.lexicon in
@@ -34,14 +34,14 @@ returns-in-Err-NoToken-clause-offers c texts trees address are is number =
     typed_as
     (subst (λ (bytes : List ℕ). IsTypedAt bytes off (take start bytes) (slice_range bytes start off) (drop off bytes)) c.text.ensures.text c.word_start-start.ensures.typed)
     (c.in_ok-front.ensures ∙ c.range.ensures.value ∙ first_bytes c.text-2.result.now start ∙ ap (take start) c.text-2.ensures.text) refl refl in
-    subst (AreOffers g texts address text off) (sym (ap (map offer_of) c.new-in-Err-NoToken.ensures.items))
-    (nothing g texts trees are address text off of are_kinds lexicon is_lexicon
-    (none_uncut g texts trees are address text off of are_kinds lexicon is_lexicon c.in_ok-front.front (slice_range text start off) (drop off text) typed
+    subst (AreOffers setting texts address text off) (sym (ap (map offer_of) c.new-in-Err-NoToken.ensures.items))
+    (nothing setting texts trees are address text off of are_kinds lexicon is_lexicon
+    (none_uncut setting texts trees are address text off of are_kinds lexicon is_lexicon c.in_ok-front.front (slice_range text start off) (drop off text) typed
     (c.cut.ensures.no_cut of lexicon c.in-Err-NoToken.field-0-0 are_kinds is_lexicon (c.in-Err-NoToken.is ∙ ap Err c.in-Err-NoToken.field-0-is))))
 
 pub returns-clause-offers : goal.returns-clause-offers
 returns-clause-offers c texts trees address are is number =
-    let g = c.args.language.now.grammar in
+    let setting = c.args.language.now.grammar in
     let text = c.args.text.now in
     let off = c.args.off in
     let (of, are_kinds, is_lexicon) = c.tokens.ensures.lexicon in
@@ -61,7 +61,7 @@ returns-clause-offers c texts trees address are is number =
     let cut = c.in-Ok.ensures.cut of lexicon are_kinds is_lexicon in
     let same : tokens ≡ c.in-Ok.tokens.items = c.as_slice.ensures.value in
     let here : IsCut lexicon front tokens = subst (IsCut lexicon front) (sym same) cut.0 in
-    answered g texts trees are address text off of are_kinds lexicon is_lexicon front word rest typed tokens short here (λ others other. cut.1 others other ∙ sym same)
+    answered setting texts trees are address text off of are_kinds lexicon is_lexicon front word rest typed tokens short here (λ others other. cut.1 others other ∙ sym same)
     (λ items. map offer_of items.items) c.offers.result
     (c.offers.ensures.exact of lexicon trees address (record {
       are_kinds = are_kinds;

@@ -50,9 +50,9 @@ names-requires-clause-known c =
 pub returns-clause-exact : goal.returns-clause-exact
 returns-clause-exact c of lexicon trees address typed here =
     let typing = c.args.typing.now in
-    let g = grammar_of typing in
+    let setting = grammar_of typing in
     let (tasks, rule, parsed, entry) = parsed_by typing c.parser-parser.result.now c.parser-parser.ensures.parses of typed.are_kinds in
-    let readings = c.in_ok-fronts.ensures g of tasks rule parsed.program entry typed.of_kinds in
+    let readings = c.in_ok-fronts.ensures setting of tasks rule parsed.program entry typed.of_kinds in
     let made = c.in_ok-recutter.ensures in
     let cuts : CutsBehind lexicon typing c.in_ok-recutter.recutter =
     cuts_made typing typed c.tokens-tables.result.now.lexicon c.tokens-tables.ensures.lexicon c.in_ok-recutter.recutter made.lexicon made.end made.own in
@@ -66,9 +66,9 @@ returns-clause-exact c of lexicon trees address typed here =
     IfOk-weaker c.in_order.result
     (λ items. (x : Offer) → Contains (map offer_of items.items) x ↔ (Contains (map keyword_offer keywords) x ⊎ Contains (map name_offer names) x))
     (λ items. (x : Offer) → Contains (map offer_of items.items) x ↔
-    IsOffered g of lexicon trees address typing.front.now typing.rest.now typing.tokens.now typing.word.now x)
+    IsOffered setting of lexicon trees address typing.front.now typing.rest.now typing.tokens.now typing.word.now x)
     (λ items are x. (
-      λ has. offered g of lexicon trees address typing.front.now typing.rest.now typing.word.now typing.tokens.now keywords names keywords_are names_are x ((are x).0 has),
-      λ offer. (are x).1 (among g of lexicon trees address typing.front.now typing.rest.now typing.word.now typing.tokens.now keywords names keywords_are names_are x offer),
+      λ has. offered setting of lexicon trees address typing.front.now typing.rest.now typing.word.now typing.tokens.now keywords names keywords_are names_are x ((are x).0 has),
+      λ offer. (are x).1 (among setting of lexicon trees address typing.front.now typing.rest.now typing.word.now typing.tokens.now keywords names keywords_are names_are x offer),
     ))
     c.in_order.ensures.exact

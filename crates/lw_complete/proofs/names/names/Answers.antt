@@ -66,11 +66,11 @@ pub returns-clause-names : goal.returns-clause-names
 returns-clause-names c of lexicon tasks trees address read readings one_way among =
     let typing = c.args.typing.now in
     let parser = c.args.parser.now in
-    let g = grammar_of typing in
+    let setting = grammar_of typing in
     let starts = c.as_slice.result.now in
     let all =
     all_starts typing of tasks parser read.parsed c.recipes.result.now c.in_ok-starts.starts.items starts c.recipes.ensures c.as_slice.ensures.value
-    (λ are. c.in_ok-starts.ensures.starts g of tasks Sentence (kinds_before typing) readings are) in
+    (λ are. c.in_ok-starts.ensures.starts setting of tasks Sentence (kinds_before typing) readings are) in
     let next = all_next typing of tasks parser read.parsed starts all in
     let known = c.as_slice-2.result.now in
     let are_starts : map (λ (one : Known). one.start.now) known ≡ starts =
@@ -98,7 +98,7 @@ returns-clause-names c of lexicon tasks trees address read readings one_way amon
     IfOk-weaker c.offered.result
     (λ found. (name : List ℕ) → Contains found.items name ↔ (Contains c.dedup.new.self.items name × IsOfferedBy of lexicon tasks typing trees address known name))
     (λ found. (name : List ℕ) → Contains found.items name ↔
-    (BeginsBy typing.word.now name × IsNameNext g of lexicon trees address typing.front.now typing.rest.now typing.tokens.now name))
+    (BeginsBy typing.word.now name × IsNameNext setting of lexicon trees address typing.front.now typing.rest.now typing.tokens.now name))
     (λ found exact.
     all_offered typing of lexicon tasks parser read.parsed starts all trees address known are_starts are_known c.dedup.new.self.items
     (λ name. (λ has. (found_are name).0 ((same name).0 has), λ is. (same name).1 ((found_are name).1 is))) found.items exact)

@@ -30,13 +30,13 @@ tree_of-requires-clause-follows c =
 
 pub returns : goal.returns
 returns c m meant (x, follows) =
-    let g = grammar_of c.args.typing.now in
+    let setting = grammar_of c.args.typing.now in
     let text = c.args.blank.now.text in
     let (kinds, are, k, faultless) = c.parser.ensures.parses in
     let same : c.in_ok-tokens.tokens.items ≡ c.args.blank.now.tokens.items = c.in_ok-tokens.ensures.items ∙ c.as_slice.ensures.value in
-    IfOk-weaker c.tree_of.result (IsOpenedTree g text m (visible c.in_ok-tokens.tokens.items) c.in_ok-tokens.tokens.items)
+    IfOk-weaker c.tree_of.result (IsOpenedTree setting.grammar text m (visible c.in_ok-tokens.tokens.items) c.in_ok-tokens.tokens.items)
     (IsTreeOfBlank c.args.typing.now c.args.blank.now m) (λ tree is.
-    whole_opened g text m (visible c.args.blank.now.tokens.items) c.args.blank.now.tokens.items tree x follows
-    (subst (λ (ts : List Token). IsOpenedTree g text m (visible ts) ts tree) same is))
-    (c.tree_of.ensures g m (Root x ∷ []) x (subst (AreRecipesOf g) (sym c.recipes-recipes.ensures) faultless.parser.recipes) meant
-    (subst (λ (ts : List Token). FollowsMarks g text m (visible ts) (Root x ∷ [])) (sym same) follows) f.root)
+    whole_opened setting text m (visible c.args.blank.now.tokens.items) c.args.blank.now.tokens.items tree x follows
+    (subst (λ (ts : List Token). IsOpenedTree setting.grammar text m (visible ts) ts tree) same is))
+    (c.tree_of.ensures setting m (Root x ∷ []) x (subst (AreRecipesOf setting.grammar) (sym c.recipes-recipes.ensures) faultless.parser.recipes) meant
+    (subst (λ (ts : List Token). FollowsMarks setting.grammar text m (visible ts) (Root x ∷ [])) (sym same) follows) f.root)

@@ -1,7 +1,7 @@
 use Rattle.std.proofs.Common.{ℕ, ◌↔◌, List, Contains}
 use Rattle.std.proofs.lemmas.Result.{IfOk-weaker}
 use Rattle.lw_places.specs.Targets.{HasTarget, renamed_to}
-use Rattle.lw_link_rules.specs.Links.{IsNumberBelow}
+use Rattle.lw_link_rules.specs.Links.{rules_of}
 use Rattle.lw_complete.specs.Starts.{LeadsInBlank}
 use Rattle.lw_complete.specs.Typing.{grammar_of}
 use Rattle.lw_complete.proofs.BlankNamed.{known, leads_there, outwards, root, there_leads}
@@ -25,11 +25,11 @@ names_in-requires-clause-known c =
 
 pub returns : goal.returns
 returns c m trees address meant grows among =
-    let g = grammar_of c.args.typing.now in
+    let setting = grammar_of c.args.typing.now in
     let tree = c.in_ok-tree.tree in
     let is = c.in_ok-tree.ensures m meant grows.grows in
     let r = c.index-refs-before.result in
-    IfOk-weaker c.names_in.result (λ names. (name : List ℕ) → Contains names.items name ↔ HasTarget (IsNumberBelow g) trees address tree (renamed_to name r))
+    IfOk-weaker c.names_in.result (λ names. (name : List ℕ) → Contains names.items name ↔ HasTarget (rules_of setting) trees address tree (renamed_to name r))
     (λ names. (name : List ℕ) → Contains names.items name ↔ LeadsInBlank c.args.typing.now trees address c.args.blank.now c.args.before m name)
     (λ names exact name. (
       λ has.

@@ -4,6 +4,6 @@ use Rattle.lw_conversation.proofs.laws.one_outcome.Goals as goal
 
 pub returns : goal.returns
 returns c = record {
-  reads = λ g one_way. settled_by_answers g one_way (c.one_list.ensures.offers g one_way) c.one_path.ensures;
-  files = λ g one_way. settled_by_files g one_way (c.one_list.ensures.offers g one_way) c.one_path.ensures;
+  reads = λ setting one_way. settled_by_answers setting one_way (c.one_list.ensures.offers setting one_way) c.one_path.ensures;
+  files = λ setting one_way. settled_by_files setting one_way (c.one_list.ensures.offers setting one_way) c.one_path.ensures;
 }

@@ -3,12 +3,12 @@ use Rattle.lw_link.proofs.RootLemmas.{own_alone, root_leads}
 use Rattle.lw_link.proofs.alone.answer_alone.Goals as goal
 
 pub returns-in-Some : goal.returns-in-Some
-returns-in-Some c g address are =
-    let is_type = want_named c.args.types.now c.args.reference.now c.requires.known g are in
-    own_alone g c.args.reference.now _ c.subs-fits.result.now is_type (c.subs-fits.ensures g _ are is_type) address c.args.tree.now c.in-Some.node.0 c.in-Some.ensures
+returns-in-Some c setting.grammar address are =
+    let is_type = want_named c.args.types.now c.args.reference.now c.requires.known setting.grammar are in
+    own_alone setting c.args.reference.now _ c.subs-fits.result.now is_type (c.subs-fits.ensures setting _ are is_type) address c.args.tree.now c.in-Some.node.0 c.in-Some.ensures
 
 pub returns-in-None : goal.returns-in-None
-returns-in-None c g address are =
-    let is_type = want_named c.args.types.now c.args.reference.now c.requires.known g are in
-    root_leads g c.args.reference.now _ c.subs-fits.result.now is_type (c.subs-fits.ensures g _ are is_type) address c.args.tree.now c.in-None.ensures c.requires.root
+returns-in-None c setting.grammar address are =
+    let is_type = want_named c.args.types.now c.args.reference.now c.requires.known setting.grammar are in
+    root_leads setting c.args.reference.now _ c.subs-fits.result.now is_type (c.subs-fits.ensures setting _ are is_type) address c.args.tree.now c.in-None.ensures c.requires.root
     c.root_answer.result c.root_answer.ensures

@@ -1,8 +1,8 @@
 use Rattle.std.proofs.Common.{ℕ, ◌≡◌, List, length, map, take}
 use Rattle.std.specs.List.{AllZip}
-use Rattle.lw_grammar.specs.declared.grammar.Grammar.{Grammar}
+use Rattle.lw_link_rules.specs.Setting.{Setting}
 use Rattle.lw_link_rules.specs.Diagnostics.{alone_at}
-use Rattle.lw_link_rules.specs.Links.{IsNumberBelow}
+use Rattle.lw_link_rules.specs.Links.{rules_of}
 use Rattle.lw_scoping.specs.Links.{LinksTo}
 use Rattle.lw_types.specs.Inferred.{AreTypesOf}
 use Rattle.lw_link.specs.Alone.{link_at}
@@ -11,7 +11,7 @@ use Rattle.lw_link.proofs.alone.answers_alone.Given as goal
 -- the answers of the references so far
 abbrev pub invariant-loop-reference : goal.invariant-loop-reference
 invariant-loop-reference l = record {
-  links : (g : Grammar) (address : List ℕ) → AreTypesOf g l.types →
-      AllZip (LinksTo (IsNumberBelow g) (alone_at address l.tree) address l.tree) (take l.reference-index l.reference-items) (map (link_at address) l.found.items);
+  links : (setting : Setting) (address : List ℕ) → AreTypesOf setting.grammar l.types →
+      AllZip (LinksTo (rules_of setting) (alone_at address l.tree) address l.tree) (take l.reference-index l.reference-items) (map (link_at address) l.found.items);
   count : length l.found.items ≡ l.reference-index;
 }

@@ -2,7 +2,7 @@ use Rattle.std.proofs.Common.{◌≤◌, ◌<◌, List, [], ◌∷◌, ◌++◌,
 use Rattle.std.specs.List.{AllZip}
 use Rattle.std.proofs.lemmas.List.{take_all}
 use Rattle.std.proofs.lemmas.List.Elements.{All-push, All-same}
-use Rattle.lw_link_rules.specs.Links.{IsNumberBelow}
+use Rattle.lw_link_rules.specs.Links.{rules_of}
 use Rattle.lw_scoping.specs.Links.{Link, LinksTo}
 use Rattle.lw_tree.specs.declared.node.Reference.{Reference}
 use Rattle.lw_link.specs.Indexed.{LeadsIntoHeld, link_of}
@@ -14,7 +14,7 @@ loop-reference-preserved g c = record {
   links = λ h trees address are is_index is_document.
       let refs = c.refs-reference-items.result.now in
       let inside : c.loop-reference.reference-index < length refs = omega arith in
-      mapped_more (LinksTo (IsNumberBelow h) trees address c.args.tree.now) (link_of c.args.index.now) refs c.loop-reference.found.items c.push.new.self.items
+      mapped_more (LinksTo (rules_of h) trees address c.args.tree.now) (link_of c.args.index.now) refs c.loop-reference.found.items c.push.new.self.items
       c.loop-reference.reference-index c.reference-item.result c.answer_to.result inside c.reference-item.is c.in_ok-push.ensures.items
       (c.loop-reference.invariant.links h trees address are is_index is_document)
       (c.answer_to.ensures.link h trees address are is_index is_document);
@@ -34,9 +34,9 @@ loop-reference-preserved g c = record {
 }
 
 pub returns-clause-links : goal.returns-clause-links
-returns-clause-links g c h trees address are is_index is_document =
+returns-clause-links g c h.grammar trees address are is_index is_document =
     let links : List Link = map (link_of c.args.index.now) c.loop-reference.found.items in
     let past : length c.refs-reference-items.result.now ≤ c.loop-reference.reference-index = omega arith in
-    subst (λ (refs : List Reference). AllZip (LinksTo (IsNumberBelow h) trees address c.args.tree.now) refs links)
+    subst (λ (refs : List Reference). AllZip (LinksTo (rules_of h) trees address c.args.tree.now) refs links)
     (take_all c.loop-reference.reference-index c.refs-reference-items.result.now past ∙ c.refs-reference-items.ensures)
     (c.loop-reference.invariant.links h trees address are is_index is_document)

@@ -25,7 +25,7 @@ again-requires c =
 
 pub returns-in-Err-clause-refused : goal.returns-in-Err-clause-refused
 returns-in-Err-clause-refused c =
-    let g = c.args.language.now.grammar in
+    let setting = c.args.language.now.grammar in
     let new = c.args.new.now in
     let views = c.args.views.now in
     let spans = c.args.spans.now in
@@ -35,12 +35,12 @@ returns-in-Err-clause-refused c =
     let at = slice_get_read views (length views) i v refl c.reading-test.true c.index-views-i.is in
     let there = slice_get_read spans (length spans) i s refl (omega (arith, c.reading-test.true, c.requires.long)) c.index-spans-i.is in
     or_so c.in-Err.ensures.refused (λ is.
-    spoiled_first g new views spans c.reading.trees.items i v s c.in-Err.fault c.reading.invariant.long at there
-    (subst (λ (x : List Span). IsSpoiled g new v x c.in-Err.fault) c.as_slice.ensures is) c.reading.invariant.again)
+    spoiled_first setting new views spans c.reading.trees.items i v s c.in-Err.fault c.reading.invariant.long at there
+    (subst (λ (x : List Span). IsSpoiled setting new v x c.in-Err.fault) c.as_slice.ensures is) c.reading.invariant.again)
 
 pub reading-preserved : goal.reading-preserved
 reading-preserved c =
-    let g = c.args.language.now.grammar in
+    let setting = c.args.language.now.grammar in
     let new = c.args.new.now in
     let views = c.args.views.now in
     let spans = c.args.spans.now in
@@ -54,7 +54,7 @@ reading-preserved c =
     let so_far = c.reading.invariant.long in
     record {
       long = omega (arith, long, so_far);
-      again = subst (AreAgain g new views spans) (sym more)
-          (again_more g new views spans c.reading.trees.items c.in-Ok.tree i v s so_far at there
-          (subst (λ (x : List Span). IsAgain g new v x c.in-Ok.tree) c.as_slice.ensures c.in-Ok.ensures.kept) c.reading.invariant.again);
+      again = subst (AreAgain setting new views spans) (sym more)
+          (again_more setting new views spans c.reading.trees.items c.in-Ok.tree i v s so_far at there
+          (subst (λ (x : List Span). IsAgain setting new v x c.in-Ok.tree) c.as_slice.ensures c.in-Ok.ensures.kept) c.reading.invariant.again);
     }

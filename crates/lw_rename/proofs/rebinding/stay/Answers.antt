@@ -12,6 +12,7 @@ use Rattle.lw_rename.proofs.Listing.{mapped_at, mapped_read}
 use Rattle.lw_rename.proofs.Moved.{rebound_in}
 use Rattle.lw_rename.proofs.Rounds.{or_so}
 use Rattle.lw_rename.proofs.rebinding.stay.Goals as goal
+use Rattle.lw_lang.specs.Language.{setting_of}
 
 pub returns-in-Some-first_other-clause-rebound : goal.returns-in-Some-first_other-clause-rebound
 returns-in-Some-first_other-clause-rebound g c =
@@ -36,8 +37,8 @@ returns-in-Some-first_other-clause-rebound g c =
     let ref = ap (λ (xs : List Reference). slice_get xs i) (sym c.refs.ensures) ∙ slice_get_read items (length items) i c.index-refs-i.result refl inside c.index-refs-i.is in
     let there = ap (λ (xs : List Answer). slice_get xs i) value ∙ slice_get_read c.in-Ok.after.items (length c.in-Ok.after.items) i c.index.result.now refl behind c.index.ensures in
     or_so c.rebound.ensures (λ tells trees indexed document.
-    rebound_in c.args.language.now.grammar views trees v c.args.tree.now c.args.index.now c.requires.alike now
-    (subst (λ (xs : List Answer). HasLinks c.args.language.now.grammar trees v.uri.now c.args.tree.now (map (link_of c.args.index.now) xs)) (sym value)
+    rebound_in (setting_of c.args.language.now) views trees v c.args.tree.now c.args.index.now c.requires.alike now
+    (subst (λ (xs : List Answer). HasLinks (setting_of c.args.language.now) trees v.uri.now c.args.tree.now (map (link_of c.args.index.now) xs)) (sym value)
     (c.in-Ok.ensures.links trees indexed document))
     old seen i c.index-refs-i.result ref c.rebound.result tells (ap (λ (r : Reference). r.span) c.index-refs-i.is)
     (mapped_read (link_among views) v.answers.now i _ among) (mapped_at (link_among views) now i c.index.result.now there) f)

@@ -11,7 +11,7 @@ location_of-requires c =
     let seen = c.seen-seen.result in
     let (trees, are_trees, views) = c.seen-seen.ensures.views in
     let stands = stands_asked v seen c.seen-seen.ensures.kept c.args.address.now c.args.at c.in-Some.asked c.in-Some.ensures in
-    let (m, there, found) = c.in-Some-definition.ensures v.grammar trees c.args.address.now views stands in
+    let (m, there, found) = c.in-Some-definition.ensures v.setting trees c.args.address.now views stands in
     spot_of_definition v seen c.seen-seen.ensures.kept trees are_trees views c.args.address.now c.args.at c.in-Some.asked c.in-Some.ensures
     c.in-Some-definition.spot m there found
 
@@ -21,7 +21,7 @@ returns-in_ok-location_of-in-Some-definition c =
     let seen = c.seen-seen.result in
     let (trees, are_trees, views) = c.seen-seen.ensures.views in
     let stands = stands_asked v seen c.seen-seen.ensures.kept c.args.address.now c.args.at c.in-Some.asked c.in-Some.ensures in
-    let (m, there, found) = c.in-Some-definition.ensures v.grammar trees c.args.address.now views stands in
+    let (m, there, found) = c.in-Some-definition.ensures v.setting trees c.args.address.now views stands in
     tells_definition v seen c.seen-seen.ensures.kept trees are_trees views c.args.address.now c.args.at c.in-Some.asked c.in-Some.ensures
     c.in-Some-definition.spot m c.in_ok-location_of-in-Some-definition.field-0 there found c.in_ok-location_of-in-Some-definition.ensures
 
@@ -32,4 +32,4 @@ returns-in-None c =
     let (trees, are_trees, views) = c.seen-seen.ensures.views in
     let stands = stands_asked v seen c.seen-seen.ensures.kept c.args.address.now c.args.at c.in-Some.asked c.in-Some.ensures in
     tells_no_definition v seen c.seen-seen.ensures.kept trees are_trees views c.args.address.now c.args.at c.in-Some.asked c.in-Some.ensures
-    (c.in-None.ensures v.grammar trees c.args.address.now views stands)
+    (c.in-None.ensures v.setting trees c.args.address.now views stands)

@@ -17,7 +17,7 @@ locations_of-requires c =
     let (trees, are_trees, views) = c.seen-seen.ensures.views in
     let stands = stands_asked v seen c.seen-seen.ensures.kept c.args.address.now c.args.at c.in-Some.asked c.in-Some.ensures in
     let (mentions, there, found) = MatchOption-at_some _ _ c.in-Some-2.spots c.in-Some-2.is
-    (c.in_ok-spots.ensures v.grammar trees c.args.address.now views c.refs.ensures stands) in
+    (c.in_ok-spots.ensures v.setting trees c.args.address.now views c.refs.ensures stands) in
     subst (All (IsSpotOf seen)) (sym c.as_slice.ensures)
     (spots_of_references v seen c.seen-seen.ensures.kept trees are_trees views c.args.address.now c.args.at c.in-Some.asked c.in-Some.ensures c.args.declaration
     c.in-Some-2.spots mentions there found)
@@ -29,7 +29,7 @@ returns-in_ok-locations_of-in-Some-2 c =
     let (trees, are_trees, views) = c.seen-seen.ensures.views in
     let stands = stands_asked v seen c.seen-seen.ensures.kept c.args.address.now c.args.at c.in-Some.asked c.in-Some.ensures in
     let (mentions, there, found) = MatchOption-at_some _ _ c.in-Some-2.spots c.in-Some-2.is
-    (c.in_ok-spots.ensures v.grammar trees c.args.address.now views c.refs.ensures stands) in
+    (c.in_ok-spots.ensures v.setting trees c.args.address.now views c.refs.ensures stands) in
     tells_references v seen c.seen-seen.ensures.kept trees are_trees views c.args.address.now c.args.at c.in-Some.asked c.in-Some.ensures c.args.declaration
     c.in-Some-2.spots mentions c.in_ok-locations_of-in-Some-2.field-0 there found
     (subst (λ (spots : List Spot). AllZip (IsLocated seen) spots c.in_ok-locations_of-in-Some-2.field-0) c.as_slice.ensures
@@ -42,4 +42,4 @@ returns-in-None c =
     let (trees, are_trees, views) = c.seen-seen.ensures.views in
     let stands = stands_asked v seen c.seen-seen.ensures.kept c.args.address.now c.args.at c.in-Some.asked c.in-Some.ensures in
     tells_no_references v seen c.seen-seen.ensures.kept trees are_trees views c.args.address.now c.args.at c.in-Some.asked c.in-Some.ensures c.args.declaration
-    (MatchOption-at_none _ _ c.in-None.is (c.in_ok-spots.ensures v.grammar trees c.args.address.now views c.refs.ensures stands))
+    (MatchOption-at_none _ _ c.in-None.is (c.in_ok-spots.ensures v.setting trees c.args.address.now views c.refs.ensures stands))

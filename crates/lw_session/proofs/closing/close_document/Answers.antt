@@ -15,9 +15,9 @@ returns-then-not-is_open-clause-closes g c =
     let count = g.F.Store.count c.args.store.now in
     IfOk-weaker c.logs.result _ _
     (λ replies is.
-    stays_done (g.F.Store.files c.args.store.now) count count v (λ m. ClosesDocument v.grammar m address) replies refl
+    stays_done (g.F.Store.files c.args.store.now) count count v (λ m. ClosesDocument v.setting m address) replies refl
     (λ m agrees.
-    subst (ClosesDocument v.grammar m address [] m) (sym is)
+    subst (ClosesDocument v.setting m address [] m) (sym is)
     (closing.unknown (none_open v m agrees address (λ here. true≢false (sym (c.if-not-is_open.ensures.1 here)))))))
     c.logs.ensures
 
@@ -31,7 +31,7 @@ returns-in-Text-clause-closes g c =
     let text = c.in-Text.text in
     let here = c.if-not-is_open.ensures.0 refl in
     let is = subst (IsFoundInStore files before now address) c.in-Text.is c.in_ok-text.ensures.found in
-    if_moved c.put_file.result files before now v (λ m. ClosesDocument v.grammar m address) address _ is c.put_file.new.workspace
+    if_moved c.put_file.result files before now v (λ m. ClosesDocument v.setting m address) address _ is c.put_file.new.workspace
     (λ m n replies. PutsFile m address text n replies)
     (λ m n replies agrees puts. closes_text v address here.0 here.1 here.2 m agrees is.asked text n replies is.finds puts) c.put_file.ensures.put
 
@@ -44,8 +44,8 @@ returns-in-Absent-clause-closes g c =
     let now = g.F.Store.count c.find_file.new.store in
     let here = c.if-not-is_open.ensures.0 refl in
     let is = subst (IsFoundInStore files before now address) c.in-Absent.is c.in_ok-text.ensures.found in
-    if_moved c.remove_document.result files before now v (λ m. ClosesDocument v.grammar m address) address _ is c.remove_document.new.workspace
-    (λ m n replies. RemovesHeld v.grammar m address n replies)
+    if_moved c.remove_document.result files before now v (λ m. ClosesDocument v.setting m address) address _ is c.remove_document.new.workspace
+    (λ m n replies. RemovesHeld v.setting m address n replies)
     (λ m n replies agrees removes. closes_absent v address here.0 here.1 here.2 m agrees is.asked n replies is.finds removes) c.remove_document.ensures.removed
 
 pub returns-in-Absent-clause-lost : goal.returns-in-Absent-clause-lost
@@ -57,8 +57,8 @@ returns-in-Absent-clause-lost g c =
     let now = g.F.Store.count c.find_file.new.store in
     let here = c.if-not-is_open.ensures.0 refl in
     let is = subst (IsFoundInStore files before now address) c.in-Absent.is c.in_ok-text.ensures.found in
-    if_lost c.remove_document.result v c.remove_document.new.workspace (λ m n. (replies : List Reply) × RemovesHeld v.grammar m address n replies)
-    (λ m. ClosesDocument v.grammar m address)
+    if_lost c.remove_document.result v c.remove_document.new.workspace (λ m n. (replies : List Reply) × RemovesHeld v.setting m address n replies)
+    (λ m. ClosesDocument v.setting m address)
     (λ m n agrees left. (is.asked, left.0, closes_absent v address here.0 here.1 here.2 m agrees is.asked n left.0 is.finds left.1)) c.remove_document.ensures.lost
 
 pub returns-in-NotUtf8-clause-closes : goal.returns-in-NotUtf8-clause-closes
@@ -70,10 +70,10 @@ returns-in-NotUtf8-clause-closes g c =
     let now = g.F.Store.count c.find_file.new.store in
     let here = c.if-not-is_open.ensures.0 refl in
     let is = subst (IsFoundInStore files before now address) c.in-NotUtf8.is c.in_ok-text.ensures.found in
-    if_moved c.remove_and_log.result files before now v (λ m. ClosesDocument v.grammar m address) address _ is c.remove_and_log.new.workspace
-    (λ m n replies. (first : List Reply) × RemovesHeld v.grammar m address n first × (replies ≡ first ++ not_text_log address ∷ []))
+    if_moved c.remove_and_log.result files before now v (λ m. ClosesDocument v.setting m address) address _ is c.remove_and_log.new.workspace
+    (λ m n replies. (first : List Reply) × RemovesHeld v.setting m address n first × (replies ≡ first ++ not_text_log address ∷ []))
     (λ m n replies agrees told.
-    subst (ClosesDocument v.grammar m address is.asked n) (sym told.2)
+    subst (ClosesDocument v.setting m address is.asked n) (sym told.2)
     (closes_not_text v address here.0 here.1 here.2 m agrees is.asked n told.0 is.finds told.1))
     c.remove_and_log.ensures.removed
 
@@ -86,8 +86,8 @@ returns-in-NotUtf8-clause-lost g c =
     let now = g.F.Store.count c.find_file.new.store in
     let here = c.if-not-is_open.ensures.0 refl in
     let is = subst (IsFoundInStore files before now address) c.in-NotUtf8.is c.in_ok-text.ensures.found in
-    if_lost c.remove_and_log.result v c.remove_and_log.new.workspace (λ m n. (replies : List Reply) × RemovesHeld v.grammar m address n replies)
-    (λ m. ClosesDocument v.grammar m address)
+    if_lost c.remove_and_log.result v c.remove_and_log.new.workspace (λ m n. (replies : List Reply) × RemovesHeld v.setting m address n replies)
+    (λ m. ClosesDocument v.setting m address)
     (λ m n agrees left. (
       is.asked,
       left.0 ++ not_text_log address ∷ [],
@@ -104,10 +104,10 @@ returns-in-TooLong-clause-closes g c =
     let now = g.F.Store.count c.find_file.new.store in
     let here = c.if-not-is_open.ensures.0 refl in
     let is = subst (IsFoundInStore files before now address) c.in-TooLong.is c.in_ok-text.ensures.found in
-    if_moved c.remove_and_log-in-TooLong.result files before now v (λ m. ClosesDocument v.grammar m address) address _ is c.remove_and_log-in-TooLong.new.workspace
-    (λ m n replies. (first : List Reply) × RemovesHeld v.grammar m address n first × (replies ≡ first ++ too_long_log address ∷ []))
+    if_moved c.remove_and_log-in-TooLong.result files before now v (λ m. ClosesDocument v.setting m address) address _ is c.remove_and_log-in-TooLong.new.workspace
+    (λ m n replies. (first : List Reply) × RemovesHeld v.setting m address n first × (replies ≡ first ++ too_long_log address ∷ []))
     (λ m n replies agrees told.
-    subst (ClosesDocument v.grammar m address is.asked n) (sym told.2)
+    subst (ClosesDocument v.setting m address is.asked n) (sym told.2)
     (closes_too_long v address here.0 here.1 here.2 m agrees is.asked n told.0 is.finds told.1))
     c.remove_and_log-in-TooLong.ensures.removed
 
@@ -120,8 +120,8 @@ returns-in-TooLong-clause-lost g c =
     let now = g.F.Store.count c.find_file.new.store in
     let here = c.if-not-is_open.ensures.0 refl in
     let is = subst (IsFoundInStore files before now address) c.in-TooLong.is c.in_ok-text.ensures.found in
-    if_lost c.remove_and_log-in-TooLong.result v c.remove_and_log-in-TooLong.new.workspace (λ m n. (replies : List Reply) × RemovesHeld v.grammar m address n replies)
-    (λ m. ClosesDocument v.grammar m address)
+    if_lost c.remove_and_log-in-TooLong.result v c.remove_and_log-in-TooLong.new.workspace (λ m n. (replies : List Reply) × RemovesHeld v.setting m address n replies)
+    (λ m. ClosesDocument v.setting m address)
     (λ m n agrees left. (
       is.asked,
       left.0 ++ too_long_log address ∷ [],

@@ -18,7 +18,7 @@ use Rattle.lw_session.proofs.completing.completion_at.Goals as goal
 pub returns-in_default : goal.returns-in_default
 returns-in_default c =
     let v = c.args.workspace.now in
-    subst (λ items. TellsCompletion v.grammar (documents v) c.args.address.now c.args.at (Offers items)) (sym c.new.ensures)
+    subst (λ items. TellsCompletion v.setting (documents v) c.args.address.now c.args.at (Offers items)) (sym c.new.ensures)
     (tell.not_held (none_held v c.args.address.now c.in_default.ensures))
 
 pub told_items-requires : goal.told_items-requires

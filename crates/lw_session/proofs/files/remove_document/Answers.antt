@@ -35,6 +35,6 @@ returns-in-Err-NoDocument-clause-removed c =
     let v = c.args.workspace.now in
     let address = c.args.address.now in
     let is = c.in-Err-NoDocument in
-    subst (λ (w : WorkspaceView). Moves v w (λ m n. RemovesHeld v.grammar m address n c.new.result)) (sym is.ensures.refused)
-    (subst (λ (replies : List Reply). Moves v v (λ m n. RemovesHeld v.grammar m address n replies)) (sym c.new.ensures)
+    subst (λ (w : WorkspaceView). Moves v w (λ m n. RemovesHeld v.setting m address n c.new.result)) (sym is.ensures.refused)
+    (subst (λ (replies : List Reply). Moves v v (λ m n. RemovesHeld v.setting m address n replies)) (sym c.new.ensures)
     (none_removed v address (not_there v address is.field-0 is.field-0-is is.ensures.fault)))

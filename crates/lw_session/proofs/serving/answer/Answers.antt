@@ -21,4 +21,4 @@ returns-in-Edits-clause-cut_short g c =
 
 pub returns-in_err-told-clause-cut_short : goal.returns-in_err-told-clause-cut_short
 returns-in_err-told-clause-cut_short g c =
-    error_not_begun c.from_residual.result c.args.workspace.now.grammar (standing_of c.args.workspace.now c.args.phase) c.args.message
+    error_not_begun c.from_residual.result c.args.workspace.now.setting (standing_of c.args.workspace.now c.args.phase) c.args.message

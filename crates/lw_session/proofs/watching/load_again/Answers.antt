@@ -16,9 +16,9 @@ returns-in-Text-clause-loads g c =
     let now = g.F.Store.count c.find_file.new.store in
     let text = c.in-Text.text in
     let is = subst (IsFoundInStore files before now address) c.in-Text.is c.in_ok-text.ensures.found in
-    if_moved c.put_file.result files before now v (λ m. LoadsAgain v.grammar m address) address _ is c.put_file.new.workspace
+    if_moved c.put_file.result files before now v (λ m. LoadsAgain v.setting m address) address _ is c.put_file.new.workspace
     (λ m n replies. PutsFile m address text n replies)
-    (λ m n replies agrees puts. loads_text v.grammar m address is.asked text n replies is.finds puts) c.put_file.ensures.put
+    (λ m n replies agrees puts. loads_text v.setting m address is.asked text n replies is.finds puts) c.put_file.ensures.put
 
 pub returns-in-Absent-clause-loads : goal.returns-in-Absent-clause-loads
 returns-in-Absent-clause-loads g c =
@@ -28,9 +28,9 @@ returns-in-Absent-clause-loads g c =
     let before = g.F.Store.count c.args.store.now in
     let now = g.F.Store.count c.find_file.new.store in
     let is = subst (IsFoundInStore files before now address) c.in-Absent.is c.in_ok-text.ensures.found in
-    if_moved c.remove_document.result files before now v (λ m. LoadsAgain v.grammar m address) address _ is c.remove_document.new.workspace
-    (λ m n replies. RemovesHeld v.grammar m address n replies)
-    (λ m n replies agrees removes. loads_absent v.grammar m address is.asked n replies is.finds removes) c.remove_document.ensures.removed
+    if_moved c.remove_document.result files before now v (λ m. LoadsAgain v.setting m address) address _ is c.remove_document.new.workspace
+    (λ m n replies. RemovesHeld v.setting m address n replies)
+    (λ m n replies agrees removes. loads_absent v.setting m address is.asked n replies is.finds removes) c.remove_document.ensures.removed
 
 pub returns-in-Absent-clause-lost : goal.returns-in-Absent-clause-lost
 returns-in-Absent-clause-lost g c =
@@ -40,9 +40,9 @@ returns-in-Absent-clause-lost g c =
     let before = g.F.Store.count c.args.store.now in
     let now = g.F.Store.count c.find_file.new.store in
     let is = subst (IsFoundInStore files before now address) c.in-Absent.is c.in_ok-text.ensures.found in
-    if_lost c.remove_document.result v c.remove_document.new.workspace (λ m n. (replies : List Reply) × RemovesHeld v.grammar m address n replies)
-    (λ m. LoadsAgain v.grammar m address)
-    (λ m n agrees left. (is.asked, left.0, loads_absent v.grammar m address is.asked n left.0 is.finds left.1)) c.remove_document.ensures.lost
+    if_lost c.remove_document.result v c.remove_document.new.workspace (λ m n. (replies : List Reply) × RemovesHeld v.setting m address n replies)
+    (λ m. LoadsAgain v.setting m address)
+    (λ m n agrees left. (is.asked, left.0, loads_absent v.setting m address is.asked n left.0 is.finds left.1)) c.remove_document.ensures.lost
 
 pub returns-in-NotUtf8-clause-loads : goal.returns-in-NotUtf8-clause-loads
 returns-in-NotUtf8-clause-loads g c =
@@ -52,7 +52,7 @@ returns-in-NotUtf8-clause-loads g c =
     let before = g.F.Store.count c.args.store.now in
     let now = g.F.Store.count c.find_file.new.store in
     let is = subst (IsFoundInStore files before now address) c.in-NotUtf8.is c.in_ok-text.ensures.found in
-    if_told c.logs.result files before now v (λ m. LoadsAgain v.grammar m address) address _ is (not_text_log address ∷ [])
+    if_told c.logs.result files before now v (λ m. LoadsAgain v.setting m address) address _ is (not_text_log address ∷ [])
     (λ m agrees. watching.not_text is.finds) c.logs.ensures
 
 pub returns-in-TooLong-clause-loads : goal.returns-in-TooLong-clause-loads
@@ -63,7 +63,7 @@ returns-in-TooLong-clause-loads g c =
     let before = g.F.Store.count c.args.store.now in
     let now = g.F.Store.count c.find_file.new.store in
     let is = subst (IsFoundInStore files before now address) c.in-TooLong.is c.in_ok-text.ensures.found in
-    if_told c.logs-in-TooLong.result files before now v (λ m. LoadsAgain v.grammar m address) address _ is (too_long_log address ∷ [])
+    if_told c.logs-in-TooLong.result files before now v (λ m. LoadsAgain v.setting m address) address _ is (too_long_log address ∷ [])
     (λ m agrees. watching.too_long is.finds) c.logs-in-TooLong.ensures
 
 pub returns-in-Failed-clause-loads : goal.returns-in-Failed-clause-loads
@@ -74,5 +74,5 @@ returns-in-Failed-clause-loads g c =
     let before = g.F.Store.count c.args.store.now in
     let now = g.F.Store.count c.find_file.new.store in
     let is = subst (IsFoundInStore files before now address) c.in-Failed.is c.in_ok-text.ensures.found in
-    if_told c.logs-in-Failed.result files before now v (λ m. LoadsAgain v.grammar m address) address _ is (failed_log address ∷ [])
+    if_told c.logs-in-Failed.result files before now v (λ m. LoadsAgain v.setting m address) address _ is (failed_log address ∷ [])
     (λ m agrees. watching.failed is.finds) c.logs-in-Failed.ensures

@@ -15,9 +15,9 @@ changes-init g c =
     let files = g.F.Store.files c.args.store.now in
     let count = g.F.Store.count c.args.store.now in
     record {
-      seen = subst (IsDoneByReads files count count v v (λ m. SeesChanges v.grammar m [])) (sym c.new-replies.ensures)
-          (stays_done files count count v (λ m. SeesChanges v.grammar m []) [] refl (λ m agrees. watching.none));
-      grammar = refl;
+      seen = subst (IsDoneByReads files count count v v (λ m. SeesChanges v.setting m [])) (sym c.new-replies.ensures)
+          (stays_done files count count v (λ m. SeesChanges v.setting m []) [] refl (λ m agrees. watching.none));
+      setting = refl;
       files = refl;
     }
 
@@ -34,13 +34,13 @@ changes-preserved g c =
     let i = c.changes.change-index in
     let change = c.change-item.result in
     let one = subst
-    (λ (told : Option (List (List ℕ × List ℕ))). IsDoneByReads told between now v w (λ m. SeesChange v.grammar m change.uri change.kind) c.in_ok-told.told)
+    (λ (told : Option (List (List ℕ × List ℕ))). IsDoneByReads told between now v w (λ m. SeesChange v.setting m change.uri change.kind) c.in_ok-told.told)
     c.changes.invariant.files c.in_ok-told.ensures.sees in
     record {
-      seen = subst₂ (λ (seen : List FileChange) (replies : List Reply). IsDoneByReads files before now u w (λ m. SeesChanges u.grammar m seen) replies)
+      seen = subst₂ (λ (seen : List FileChange) (replies : List Reply). IsDoneByReads files before now u w (λ m. SeesChanges u.setting m seen) replies)
           (sym (seen_next changes i change (omega arith) c.change-item.is)) (sym c.in_ok-append.ensures)
-          (one_more files before between u v c.changes.invariant.grammar (take i changes) c.changes.replies c.changes.invariant.seen change now w c.in_ok-told.told one);
-      grammar = c.in_ok-told.ensures.grammar ∙ c.changes.invariant.grammar;
+          (one_more files before between u v c.changes.invariant.setting (take i changes) c.changes.replies c.changes.invariant.seen change now w c.in_ok-told.told one);
+      setting = c.in_ok-told.ensures.setting ∙ c.changes.invariant.setting;
       files = c.in_ok-told.ensures.files ∙ c.changes.invariant.files;
     }
 
@@ -51,7 +51,7 @@ returns-in_err-told-clause-in_part g c =
     let change = c.change-item.result in
     error_there c.from_residual.result _
     (cut_at_one (g.F.Store.files c.args.store.now) (g.F.Store.count c.args.store.now) (g.F.Store.count c.changes.store) c.args.workspace.now c.changes.workspace
-    c.changes.invariant.grammar (take i changes) c.changes.replies c.changes.invariant.seen change changes (drop (i + 1) changes)
+    c.changes.invariant.setting (take i changes) c.changes.replies c.changes.invariant.seen change changes (drop (i + 1) changes)
     (seen_and_behind changes i change (omega arith) c.change-item.is) c.see.new.workspace c.in_err-told.ensures.lost)
 
 pub returns-in_err-append-clause-in_part : goal.returns-in_err-append-clause-in_part
@@ -67,13 +67,13 @@ returns-in_err-append-clause-in_part g c =
     let i = c.changes.change-index in
     let change = c.change-item.result in
     let one = subst
-    (λ (told : Option (List (List ℕ × List ℕ))). IsDoneByReads told between now v w (λ m. SeesChange v.grammar m change.uri change.kind) c.in_ok-told.told)
+    (λ (told : Option (List (List ℕ × List ℕ))). IsDoneByReads told between now v w (λ m. SeesChange v.setting m change.uri change.kind) c.in_ok-told.told)
     c.changes.invariant.files c.in_ok-told.ensures.sees in
     error_there c.from_residual-in_err-append.result _
     (cut_behind_seen files before now u w (take i changes ++ change ∷ []) changes (drop (i + 1) changes) (c.changes.replies ++ c.in_ok-told.told)
     (sym (take-append-drop (i + 1) changes)
     ∙ ap (λ (seen : List FileChange). seen ++ drop (i + 1) changes) (seen_next changes i change (omega arith) c.change-item.is))
-    (one_more files before between u v c.changes.invariant.grammar (take i changes) c.changes.replies c.changes.invariant.seen change now w c.in_ok-told.told one))
+    (one_more files before between u v c.changes.invariant.setting (take i changes) c.changes.replies c.changes.invariant.seen change now w c.in_ok-told.told one))
 
 pub returns-clause-sees : goal.returns-clause-sees
 returns-clause-sees g c =
@@ -81,5 +81,5 @@ returns-clause-sees g c =
     subst
     (λ (seen : List FileChange).
     IsDoneByReads (g.F.Store.files c.args.store.now) (g.F.Store.count c.args.store.now) (g.F.Store.count c.changes.store) u c.changes.workspace
-    (λ m. SeesChanges u.grammar m seen) c.changes.replies)
+    (λ m. SeesChanges u.setting m seen) c.changes.replies)
     (take_all c.changes.change-index c.args.changes.now (omega arith)) c.changes.invariant.seen

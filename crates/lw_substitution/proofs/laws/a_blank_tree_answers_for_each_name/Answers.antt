@@ -3,10 +3,10 @@ use Rattle.lw_substitution.proofs.laws.a_blank_tree_answers_for_each_name.Goals 
 
 pub returns : goal.returns
 returns c = record {
-  there = λ g of lexicon front name rest tokens added all next before blank s r makes row opened is.
-      named_tree g of lexicon front name rest tokens next before blank s r makes row opened is added all;
-  alike = λ g of lexicon front name rest tokens added all next before blank tree s r makes row opened is tree_is.
-      named_alike g of lexicon front name rest tokens next before blank s r makes row opened is added all tree tree_is;
-  answers = λ g of lexicon front name rest tokens added all next before blank tree s r makes row opened is tree_is.
-      named_answers g of lexicon front name rest tokens next before blank s r makes row opened is added all tree tree_is;
+  there = λ setting of lexicon front name rest tokens added all next before blank s r makes row opened is.
+      named_tree setting of lexicon front name rest tokens next before blank s r makes row opened is added all;
+  alike = λ setting of lexicon front name rest tokens added all next before blank tree s r makes row opened is tree_is.
+      named_alike setting of lexicon front name rest tokens next before blank s r makes row opened is added all tree tree_is;
+  answers = λ setting of lexicon front name rest tokens added all next before blank tree s r makes row opened is tree_is.
+      named_answers setting of lexicon front name rest tokens next before blank s r makes row opened is added all tree tree_is;
 }

@@ -11,6 +11,7 @@ use Rattle.lw_build.specs.Faults as faults
 use Rattle.lw_build.specs.Faults.{IsAddRefusal}
 use Rattle.lw_build.specs.declared.fault.WorkFault.TheVariants.{TooMany}
 use Rattle.lw_build.proofs.workspace.Workspace.add.Goals as goal
+use Rattle.lw_lang.specs.Language.{setting_of}
 
 pub returns-in-Err-clause-fault : goal.returns-in-Err-clause-fault
 returns-in-Err-clause-fault c = faults.starved
@@ -35,7 +36,7 @@ invariant_of-self-2 c =
           (λ q other. ap (λ (m : ByAddress). get m q) c.in-Ok-add.ensures.added ∙ put_elsewhere docs own come q other)
           c.self.inside.readings c.self.invariant.read none;
       unread = c.self.invariant.unread;
-      stands = others_stand c.self.inside.language.grammar docs c.add.new.self c.self.invariant.numbered c.numbered.ensures c.self.inside.readings c.self.inside.readings c.self.inside.refs
+      stands = others_stand (setting_of c.self.inside.language) docs c.add.new.self c.self.invariant.numbered c.numbered.ensures c.self.inside.readings c.self.inside.readings c.self.inside.refs
           c.self.inside.standing c.self.inside.standing c.self.invariant.stands refl (λ name has. has) (λ n reading is. is)
           (λ held at. (
             held,

@@ -9,6 +9,7 @@ use Rattle.lw_build.proofs.Carrying.{touched_stands}
 use Rattle.lw_build.proofs.Leading.{answers_left, unread_forgotten}
 use Rattle.lw_build.proofs.Reading.{forgotten}
 use Rattle.lw_build.proofs.workspace.Workspace.change.Goals as goal
+use Rattle.lw_lang.specs.Language.{setting_of}
 
 pub invariant_of-self : goal.invariant_of-self
 invariant_of-self c =
@@ -22,7 +23,7 @@ invariant_of-self c =
           (λ q other. ap (λ (m : ByAddress). get m q) (c.renew.ensures x at) ∙ put_elsewhere docs x.uri turned q other)
           c.self.inside.readings c.self.invariant.read c.args.d x at c.forget.new.self c.forget.ensures.here c.forget.ensures.others c.forget.ensures.index;
       unread = unread_forgotten c.self.inside.readings c.forget.new.self c.self.inside.refs c.remove.new.self c.args.d.0 c.self.invariant.unread c.remove.ensures c.forget.ensures.others;
-      stands = touched_stands c.self.inside.language.grammar c.self.inside.language.texts docs c.renew.new.docs c.self.invariant.numbered c.numbered.ensures c.self.inside.readings
+      stands = touched_stands (setting_of c.self.inside.language) c.self.inside.language.texts docs c.renew.new.docs c.self.invariant.numbered c.numbered.ensures c.self.inside.readings
           c.forget.new.self c.self.invariant.read c.self.inside.refs c.remove.new.self c.self.inside.standing c.touch.new.self c.self.invariant.stands c.args.d x at
           (λ q other. ap (λ (m : ByAddress). get m q) (c.renew.ensures x at) ∙ put_elsewhere docs x.uri turned q other)
           c.forget.ensures.others (answers_left c.self.inside.refs c.remove.new.self c.args.d.0 c.remove.ensures)

@@ -45,7 +45,7 @@ returns-clause-agrees c =
     let changes = c.args.changes.now in
     let now = numbered c.in-Some.d (record x { text = text; version = Some c.args.version }) in
     let done = c.in-Ok.ensures.edited in
-    let grammar = c.change.ensures.grammar ∙ sym (ap (λ (v : WorkspaceView). v.grammar) c.self.view_is) in
+    let grammar = c.change.ensures.setting ∙ sym (ap (λ (v : WorkspaceView). v.setting) c.self.view_is) in
     let kept = simp (to_z-of_z, c.ranges.version) at c.change.ensures.kept in
     let turns = subst (λ (v : WorkspaceView). Turns v.kept c.change.new.self.kept c.in-Some.d (λ y. record y { text = text; version = Some c.args.version; is_open = x.is_open }))
     (sym c.self.view_is) kept in

@@ -25,7 +25,7 @@ returns-clause-trees c =
     let texts = c.self.inside.language.texts in
     let docs = c.self.inside.docs in
     let readings = c.self.inside.readings in
-    subst (λ (v : WorkspaceView). v.is_built ≡ true → (trees : Trees) × AreTreesOfTexts v.grammar (present_texts (documents v)) trees × IsIndexOf trees readings.index)
+    subst (λ (v : WorkspaceView). v.is_built ≡ true → (trees : Trees) × AreTreesOfTexts v.setting.grammar (present_texts (documents v)) trees × IsIndexOf trees readings.index)
     c.self.view_is
     (λ is. (
       trees_of docs readings,

@@ -32,7 +32,7 @@ returns-in-Some-clause-agrees c =
     let (x, at) = found docs uri c.in-Some.d is in
     let at_uri = ap (get docs) (c.self.invariant.numbered.addresses uri (numbered c.in-Some.d x) at) ∙ at in
     let now = numbered c.in-Some.d (record x { text = c.in-Ok.text; version = c.args.version; is_open = c.args.is_open }) in
-    let grammar = c.change.ensures.grammar ∙ sym (ap (λ (v : WorkspaceView). v.grammar) c.self.view_is) in
+    let grammar = c.change.ensures.setting ∙ sym (ap (λ (v : WorkspaceView). v.setting) c.self.view_is) in
     let turns = subst (λ (v : WorkspaceView). Turns v.kept c.change.new.self.kept c.in-Some.d
     (λ y. record y { text = c.in-Ok.text; version = c.args.version; is_open = c.args.is_open })) (sym c.self.view_is) c.change.ensures.kept in
     subst (λ v. (m : Documents) → Agrees v m → Agrees c.change.new.self (put m uri c.args.text c.args.version c.args.is_open)) c.self.view_is
@@ -47,7 +47,7 @@ returns-in-None-clause-agrees c =
     let docs = c.self.inside.docs in
     let uri = c.args.uri.now in
     let none = none_found docs uri (sym c.in-None.is ∙ c.find.ensures.number) in
-    let grammar = c.add.ensures.grammar ∙ sym (ap (λ (v : WorkspaceView). v.grammar) c.self.view_is) in
+    let grammar = c.add.ensures.setting ∙ sym (ap (λ (v : WorkspaceView). v.setting) c.self.view_is) in
     on_ok_weaker c.add.result
     (λ (d, kept). subst (λ v. (m : Documents) → Agrees v m → Agrees c.add.new.self (put m uri c.args.text c.args.version c.args.is_open)) c.self.view_is
     (λ m agrees. subst (λ (t : List ℕ). Agrees c.add.new.self (put m uri t c.args.version c.args.is_open)) c.in-Ok.ensures.text

@@ -19,6 +19,7 @@ use Rattle.lw_build.proofs.Leading.{answers_left, unread_forgotten}
 use Rattle.lw_build.proofs.Reading.{forgotten}
 use Rattle.lw_build.proofs.Settling.{others_settle}
 use Rattle.lw_build.proofs.workspace.Workspace.remove.Goals as goal
+use Rattle.lw_lang.specs.Language.{setting_of}
 
 pub returns-in_default-clause-fault : goal.returns-in_default-clause-fault
 returns-in_default-clause-fault c =
@@ -40,7 +41,7 @@ invariant_of-self c =
           c.self.inside.readings c.self.invariant.read c.in-Some.gone x c.take_out.ensures.doc c.forget.new.self c.forget.ensures.here c.forget.ensures.others
           c.forget.ensures.index;
       unread = unread_forgotten c.self.inside.readings c.forget.new.self c.self.inside.refs c.remove.new.self c.in-Some.gone.0 c.self.invariant.unread c.remove.ensures c.forget.ensures.others;
-      stands = touched_stands c.self.inside.language.grammar c.self.inside.language.texts docs c.take_out.new.self c.self.invariant.numbered c.numbered.ensures c.self.inside.readings
+      stands = touched_stands (setting_of c.self.inside.language) c.self.inside.language.texts docs c.take_out.new.self c.self.invariant.numbered c.numbered.ensures c.self.inside.readings
           c.forget.new.self c.self.invariant.read c.self.inside.refs c.remove.new.self c.self.inside.standing c.touch.new.self c.self.invariant.stands c.in-Some.gone x c.take_out.ensures.doc
           (λ q other. ap (λ (m : ByAddress). get m q) c.take_out.ensures.gone ∙ taken_elsewhere docs x.uri q other)
           c.forget.ensures.others (answers_left c.self.inside.refs c.remove.new.self c.in-Some.gone.0 c.remove.ensures)
@@ -58,7 +59,7 @@ returns-clause-agrees c =
     let uri = same_uri docs c.args.uri.now c.self.invariant.numbered c.in-Some.gone is x c.take_out.ensures.doc in
     let at = at_address docs c.args.uri.now c.self.invariant.numbered c.in-Some.gone is x c.take_out.ensures.doc in
     subst (λ v. (m : Documents) → Agrees v m →
-    (n : Documents) × IsSettled v.grammar (shown_texts m) c.args.uri.now (all.remove m c.args.uri.now) n × Agrees (view of c.take_out.new.self false) n) c.self.view_is
+    (n : Documents) × IsSettled v.setting (shown_texts m) c.args.uri.now (all.remove m c.args.uri.now) n × Agrees (view of c.take_out.new.self false) n) c.self.view_is
     (λ m agrees.
     let tells = tells_types of c.types.result.now.types.subtypes c.types.ensures.types.subtypes in
     let (n, settled) = others_settle of tells m agrees.valid agrees.readable c.args.uri.now in (

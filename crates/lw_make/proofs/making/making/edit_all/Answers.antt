@@ -1,7 +1,7 @@
 use Rattle.std.proofs.Common.{◌++◌, ◌∷◌, [], ℕ, List, refl, sym, subst, ◌∙◌, arith, length-append}
 use Rattle.std.specs.List.{range_with_len}
 use Rattle.lw_build.specs.View.{documents}
-use Rattle.lw_grammar.specs.declared.grammar.Grammar.{Grammar}
+use Rattle.lw_link_rules.specs.Setting.{Setting}
 use Rattle.lw_make.specs.Making.{AreEdited, done}
 use Rattle.lw_make.proofs.Editing.{edited_further}
 use Rattle.lw_make.proofs.Putting.{range_more}
@@ -12,12 +12,12 @@ edits-init g c = record {
   edited = ([], done, omega arith);
   unedited = c.requires.unedited;
   built = c.requires.built;
-  grammar = refl;
+  setting = refl;
 }
 
 pub edits-preserved : goal.edits-preserved
-edits-preserved g c =
-    let of = c.args.workspace.now.grammar in
+edits-preserved setting c =
+    let of = c.args.workspace.now.setting in
     let start = documents c.args.workspace.now in
     let before = documents c.edits.workspace in
     let after = documents c.edit_one.new.workspace in
@@ -29,10 +29,10 @@ edits-preserved g c =
         lists ++ news,
         subst (λ (numbers : List ℕ). AreEdited of start numbers after (lists ++ news)) (sym (range_more number))
             (edited_further of start before after (range_with_len 0 number) (number ∷ []) lists news edited
-            (subst (λ (x : Grammar). AreEdited x before (number ∷ []) after news) c.edits.invariant.grammar one)),
+            (subst (λ (x : Setting). AreEdited x before (number ∷ []) after news) c.edits.invariant.setting.grammar one)),
         omega (arith, counted, told, c.in_ok-published.ensures, length-append lists news),
       );
       unedited = c.in_ok-told.ensures.unedited;
       built = c.in_ok-told.ensures.built;
-      grammar = c.in_ok-told.ensures.grammar ∙ c.edits.invariant.grammar;
+      setting = c.in_ok-told.ensures.setting ∙ c.edits.invariant.setting;
     }

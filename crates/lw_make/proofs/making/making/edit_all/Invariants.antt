@@ -9,9 +9,9 @@ use Rattle.lw_make.proofs.making.making.edit_all.Given as goal
 abbrev pub invariant-edits : goal.invariant-edits
 invariant-edits g l = record {
   edited : (lists : List Published)
-      × AreEdited l.fn.workspace.grammar (documents l.fn.workspace) (range_with_len 0 l.number) (documents l.workspace) lists
+      × AreEdited l.fn.workspace.setting (documents l.fn.workspace) (range_with_len 0 l.number) (documents l.workspace) lists
       × (l.published ≡ l.first + length lists);
   unedited : AreUnedited l.count l.number (documents l.workspace);
   built : l.workspace.is_built ≡ true;
-  grammar : l.workspace.grammar ≡ l.fn.workspace.grammar;
+  setting : l.workspace.setting ≡ l.fn.workspace.setting;
 }

@@ -33,8 +33,8 @@ returns-in-Ok-clause-edited g c =
     let now = subst (λ (z : ℤ). Agrees c.edit.new.self (insert (documents v) c.in_ok-address.address (edited d text z))) version agrees in
     let lists = c.in_ok-advance-in-Ok.field-0 in (
       lists,
-      edited_so v.grammar c.edit.new.self.grammar c.args.number (documents v) (documents c.advance.new.self) c.in_ok-address.address c.in_ok-edit.edit d text lists
-          c.in-Ok.ensures.grammar c.in_ok-edit.ensures c.in_ok-address.ensures there changes (c.in_ok-advance-in-Ok.ensures.builds _ now),
+      edited_so v.setting c.edit.new.self.setting c.args.number (documents v) (documents c.advance.new.self) c.in_ok-address.address c.in_ok-edit.edit d text lists
+          c.in-Ok.ensures.setting c.in_ok-edit.ensures c.in_ok-address.ensures there changes (c.in_ok-advance-in-Ok.ensures.builds _ now),
       search rules,
     )
 
@@ -45,7 +45,7 @@ returns-in-Ok-clause-unedited g c =
     let version : to_z w64 (of_z w64 c.in_ok-edit.edit.version) ≡ c.in_ok-edit.edit.version = search rules in
     let now = subst (λ (z : ℤ). Agrees c.edit.new.self (insert (documents v) c.in_ok-address.address (edited d text z))) version agrees in
     let lists = c.in_ok-advance-in-Ok.field-0 in
-    one_edited c.addresses_are_distinct.ensures v.grammar c.args.count c.args.number (documents v) (documents c.advance.new.self) d text lists
+    one_edited c.addresses_are_distinct.ensures v.setting c.args.count c.args.number (documents v) (documents c.advance.new.self) d text lists
     c.requires.greatest c.requires.unedited
-    (built_so v.grammar c.edit.new.self.grammar c.args.number (documents v) (documents c.advance.new.self) c.in_ok-address.address c.in_ok-edit.edit d text lists
-    c.in-Ok.ensures.grammar c.in_ok-edit.ensures c.in_ok-address.ensures (c.in_ok-advance-in-Ok.ensures.builds _ now))
+    (built_so v.setting c.edit.new.self.setting c.args.number (documents v) (documents c.advance.new.self) c.in_ok-address.address c.in_ok-edit.edit d text lists
+    c.in-Ok.ensures.setting c.in_ok-edit.ensures c.in_ok-address.ensures (c.in_ok-advance-in-Ok.ensures.builds _ now))

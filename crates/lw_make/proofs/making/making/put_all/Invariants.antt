@@ -6,5 +6,5 @@ use Rattle.lw_make.proofs.making.making.put_all.Given as goal
 abbrev pub invariant-documents : goal.invariant-documents
 invariant-documents l = record {
   stands : Agrees l.workspace (made l.count l.document);
-  grammar : l.workspace.grammar ≡ l.fn.workspace.grammar;
+  setting : l.workspace.setting ≡ l.fn.workspace.setting;
 }

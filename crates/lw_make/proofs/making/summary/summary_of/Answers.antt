@@ -23,5 +23,5 @@ returns c =
     let all : c.views.summary ≡ with_all v.kept (of_none c.args.published) views =
     all_summed v.kept c.views.summary _ c.deref-view-items.result.now c.views.view-index c.views-test.false c.views.invariant
     ∙ ap (with_all v.kept (of_none c.args.published)) c.deref-view-items.ensures.value in
-    subst (IsSummary v.grammar (documents v) lists) (sym all)
+    subst (IsSummary v.setting (documents v) lists) (sym all)
     (summary_here v c.requires views c.in_ok-views.ensures.built c.in_ok-views.ensures.texts c.in_ok-views.ensures.addresses c.args.published lists how)

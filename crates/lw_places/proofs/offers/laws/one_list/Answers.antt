@@ -4,4 +4,4 @@ use Rattle.lw_places.proofs.OneList.{one_list_of_names, one_list_of_offers}
 use Rattle.lw_places.proofs.offers.laws.one_list.Goals as goal
 
 pub returns : goal.returns
-returns c = record { offers = λ g one_way texts address text offset. one_list_of_offers g one_way texts address text offset; visible = λ is_below. one_list_of_names (ByTest is_below) }
+returns c = record { offers = λ setting one_way texts address text offset. one_list_of_offers setting one_way texts address text offset; visible = λ is_below. one_list_of_names (ByTest is_below) }
