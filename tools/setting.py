@@ -18,7 +18,9 @@ UNTOUCHED = "lw_scoping lw_lang".split()
 FORCED = {("lw_build.specs.View", "WorkspaceView"), ("lw_session.specs.View", "SessionView"), ("lw_build.proofs.Agreeing", "view"),
     ("lw_link_rules.specs.Links", "rules_of")}
 NAMES = {"g": "setting", "grammar": "setting", "of": "setting", "below": "rules"}
-SETTING = "lw_link_rules.specs.Setting"
+# clauses that stay by the grammar
+STAYS = {"c.subs-fits.ensures", "c.in_ok-fronts.ensures", "c.in_ok-starts.ensures.starts", "c.tree_of.ensures", "c.told_shown.ensures", "c.gives.ensures",
+    "c.in_ok-issue_diagnostic-in-Broken.ensures", "c.in-Some.ensures"}
 reports = []
 
 TOKEN = re.compile(r"""(?P<comment>--[^\n]*|//[^\n]*)|(?P<string>b?"(?:[^"\\]|\\.)*")|(?P<char>b?'(?:[^'\\\n]|\\.)')|(?P<space>[ \t]+)|(?P<newline>\n)
@@ -39,6 +41,14 @@ def tokens(text, rust):
             kind = "symbol"
         found.append(Tok(kind, m.group()))
     return found
+
+
+STARTS = {None, "let", "in", "where", ";", "|", "pub", "abbrev"}
+
+
+class Part(list):
+    """an application; whether it is what stands left of `=`, and what stands left of it"""
+    def __init__(self, left=None, behind=None): self.pattern, self.left, self.behind = False, left, behind
 
 
 class Group:
@@ -64,7 +74,7 @@ DECLARES = re.compile(r"^\s*(pub |abbrev |unfolding |instance )*[^\s(){}\[\]:=]+
 
 def segments(group, source_lines=None):
     """splits what stands between brackets into applications: lists of items, and the items between"""
-    part, parts = [], []
+    part, parts = Part(), []
     items = group.items
     k = 0
     while k < len(items):
@@ -82,9 +92,10 @@ def segments(group, source_lines=None):
                     else: rest += later.text
                 if not rest.startswith("    ") or DECLARES.match(rest):
                     if DECLARES.match(rest) or not rest.strip() or len(rest) - len(rest.lstrip()) < 4:
-                        parts.append(part); part = []
+                        parts.append(part); part = Part()
         elif it.kind == "symbol" or it.kind == "word" and it.text in KEYWORDS:
-            parts.append(part); part = []
+            if it.text == "=" and part.behind in STARTS: part.pattern = True
+            parts.append(part); part = Part(it.text == "=" and parts[-1] or None, it.text)
             if it.text == "λ":
                 bound = []
                 k += 1
@@ -240,12 +251,22 @@ def is_below_of(it):
     return None
 
 
+def typed_below(it):
+    """of `(IsNumberBelow (grammar_of typing))` both names"""
+    if not isinstance(it, Group) or it.open.text != "(": return None
+    items = plain(it)
+    if len(items) == 2 and is_word(items[0], "IsNumberBelow") and isinstance(items[1], Group):
+        inner = plain(items[1])
+        if len(inner) == 2 and is_word(inner[0], "grammar_of"): return items[0], inner[0]
+    return None
+
+
 def classify(node, which):
     """the variables of the node that something is applied to which takes the new type"""
     names = variables(node, which)
     found = set()
     def visit(kind, head, part, group, above):
-        if kind != "part": return
+        if kind != "part" or part.pattern: return
         if taking(node, head, which):
             for it in value_items(part):
                 if is_word(it) and it.text in names: found.add(it.text)
@@ -301,7 +322,9 @@ def rewrite(node):
     rules = classify(node, "rules")
     if node.toks is None: node.open()
     seen = set()
-    def name_of(v): return NAMES.get(v, v)
+    def name_of(v):
+        if v == "h" and "g" not in settings: return "setting"
+        return NAMES.get(v, v)
     if f.crate in VIEWING:
         def visit_paths(kind, head, part, group, above):
             if kind != "part": return
@@ -336,7 +359,14 @@ def rewrite(node):
                     plain(arg)[0].out = "rules_of"; b.out = convert_path(node, b, True); seen.add(id(b)); f.needs.add("rules_of")
                     if "setting_of" in b.out: f.needs.add("setting_of")
                     continue
+                typed = typed_below(arg)
+                if typed and ruled:
+                    typed[0].out, typed[1].out = "rules_of", "typing_setting"
+                    continue
                 items = plain(arg)
+                if k and took and len(items) == 2 and is_word(items[0], "grammar_of"):
+                    items[0].out = "typing_setting"
+                    continue
                 if k and arg.open.text == "{" and len(items) == 3 and not isinstance(items[1], Group) and items[1].text == "=":
                     named, it = items[0], items[2]
                     if is_word(named) and took and named.text in ("g", "grammar"): named.out = "setting"; seen.add(id(named))
@@ -347,16 +377,23 @@ def rewrite(node):
             if it.text in settings:
                 seen.add(id(it))
                 new = name_of(it.text)
-                if k == 0 and len(part) == 1 or k == 0:
+                if k == 0 or part.pattern:
                     it.out = new
                 elif took or local: it.out = new
+                elif known is None and head.text in STAYS: it.out = new + ".grammar"
                 elif known is None:
                     it.out = new; reports.append((f.path, head.text if is_word(head) else "( )", it.text))
                 else: it.out = new + ".grammar"
             elif it.text in rules:
                 seen.add(id(it))
                 new = name_of(it.text)
-                it.out = new if k == 0 or ruled or local or known is None else new + ".below"
+                bare = len(part) == 1 if k == 0 else part.pattern or ruled or local or known is None
+                it.out = new if bare else new + ".below"
+            elif k == 0 and len(part) == 1 and part.left and len(part.left) == 1 and is_word(part.left[0]) and part.left[0].text in settings and it.text.endswith(".grammar"):
+                seen.add(id(it))
+                it.out = convert_path(node, it, True)
+                if it.out.startswith("("): it.out = it.out[1:-1]
+                if "setting_of" in it.out: f.needs.add("setting_of")
             elif k and it.text.endswith(".grammar") and not it.text.startswith("Rattle"):
                 seen.add(id(it))
                 if known is None and not took:
@@ -367,6 +404,9 @@ def rewrite(node):
                 reports.append((f.path, head.text, it.text + " ?"))
     node.walk(visit)
     text = "".join(t.out for t in node.toks)
+    if settings:
+        text = re.sub(r"(?m)\bsetting = grammar_of\b", "setting = typing_setting", text)
+        text = re.sub(r"(?m)\babbrev setting : Grammar$", "abbrev setting : Setting", text)
     # binders
     def binder(m):
         names = (m.group(1) or m.group(2)).split()
@@ -394,6 +434,7 @@ def fix_uses(f, text):
     if used("Setting"): wants.append(("lw_link_rules.specs.Setting", "Setting"))
     if used("rules_of"): wants.append(("lw_link_rules.specs.Links", "rules_of"))
     if used("setting_of"): wants.append(("lw_lang.specs.Language", "setting_of"))
+    if used("typing_setting"): wants.append(("lw_complete.specs.Typing", "typing_setting"))
     if used("Rules"): wants.append(("lw_scoping.specs.Rules", "Rules"))
     for where, name in wants:
         if f.module == where: continue
@@ -411,7 +452,8 @@ def fix_uses(f, text):
         if at: text = text[: at[-1].end()] + "%suse Rattle.%s.{%s}%s\n" % (ghost, where, name, semi) + text[at[-1].end():]
         else: reports.append((f.path, "use", name))
     # what is no longer used
-    for where, name in (("lw_grammar.specs.declared.grammar.Grammar", "Grammar"), ("lw_link_rules.specs.Links", "IsNumberBelow")):
+    for where, name in (("lw_grammar.specs.declared.grammar.Grammar", "Grammar"), ("lw_link_rules.specs.Links", "IsNumberBelow"),
+            ("lw_complete.specs.Typing", "grammar_of")):
         if used(name) == 0 and not (f.rust and re.search(r"\b" + name + r"\b", re.sub(r"(?m)^\s*(ghost )?use [^\n]*\n", "", text))):
             line = re.search(r"(?m)^\s*%suse Rattle\.%s\.\{([^}]*)\}%s\n" % (ghost, re.escape(where), semi), text)
             if line:
@@ -431,6 +473,7 @@ def load(crates):
 
 def main():
     only = sys.argv[1:]
+    edits("before", only)
     files = load(CRATES)
     fixpoint(files)
     for f in files:
@@ -441,7 +484,7 @@ def main():
         if text != f.text:
             text = fix_uses(f, text)
             open(f.path, "w", encoding="utf-8").write(text)
-    edits(only)
+    edits("after", only)
     for r in sorted(set(reports)): print("look:", os.path.relpath(r[0], TOP), *r[1:])
 
 
@@ -471,11 +514,11 @@ def rewrite_rust(f):
     return text
 
 
-def edits(only):
+def edits(when, only):
     """what no rule says: in this file this becomes that"""
-    path = os.path.join(os.path.dirname(os.path.abspath(__file__)), "setting_edits.txt")
+    path = os.path.join(os.path.dirname(os.path.abspath(__file__)), "setting_%s.txt" % when)
     if not os.path.exists(path): return
-    for block in open(path, encoding="utf-8").read().split("\n@@@@ ")[1:]:
+    for block in ("\n" + open(path, encoding="utf-8").read()).split("\n@@@@ ")[1:]:
         head, _, rest = block.partition("\n")
         old, _, new = rest.partition("\n====\n")
         new = new[:-1] if new.endswith("\n") else new

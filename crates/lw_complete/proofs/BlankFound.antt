@@ -67,38 +67,38 @@ only_found P xs finds x = (λ has. found ((finds.exact x).0 has), λ is. (finds.
     found (inr is) = is
 
 module _ {typing : Typing} {parser : ParserParts} {start : ReferenceStart} {before : ℕ} {blank : Blank} (ready : IsBlankReady typing parser start before blank) where
-  abbrev setting : Grammar
-  setting = grammar_of typing
+  abbrev g : Grammar
+  g = grammar_of typing
 
   abbrev others : List Token
   others = map (moved_by (length typing.front.now)) blank.others.items
 
   -- behind the reference these marks come, of which the tokens behind the offset have the kinds
   abbrev pub IsAfter : List Mark → Type 0
-  IsAfter n = PlacesGive setting.grammar ready.of ready.tasks start.behind n × (kinds_of n ≡ kinds (visible blank.others.items))
+  IsAfter n = PlacesGive g ready.of ready.tasks start.behind n × (kinds_of n ≡ kinds (visible blank.others.items))
 
   -- ---- the marks that may come there, all of them, as the readings of the tokens behind the offset have them
 
   module _ (places : List ℕ) (ts : List Token) (same : places ≡ start.behind) (tokens : ts ≡ blank.others.items) where
-    pub placed : All (HasTask setting.grammar ready.of ready.tasks) places
-    placed = subst (All (HasTask setting.grammar ready.of ready.tasks)) (sym same) ready.sound.behind
+    pub placed : All (HasTask g ready.of ready.tasks) places
+    placed = subst (All (HasTask g ready.of ready.tasks)) (sym same) ready.sound.behind
 
     pub of_kinds : AreOfKinds ready.of ts
     of_kinds = subst (AreOfKinds ready.of) (sym tokens) (ready.is_blank.of_kinds ready.of ready.typed.are_kinds)
 
     -- those that these places give with the kinds of these tokens
     abbrev IsGiven : List ℕ → List Token → List Mark → Type 0
-    IsGiven ps us n = PlacesGive setting.grammar ready.of ready.tasks ps n × (kinds_of n ≡ kinds (visible us))
+    IsGiven ps us n = PlacesGive g ready.of ready.tasks ps n × (kinds_of n ≡ kinds (visible us))
 
-    all_after : (sentences : List (List TreeMark)) → MeanExactly setting.grammar (IsGiven places ts) sentences → MeanExactly setting.grammar IsAfter sentences
+    all_after : (sentences : List (List TreeMark)) → MeanExactly g (IsGiven places ts) sentences → MeanExactly g IsAfter sentences
     all_after sentences all =
-        subst (λ (us : List Token). MeanExactly setting.grammar (IsGiven start.behind us) sentences) tokens
-        (subst (λ (ps : List ℕ). MeanExactly setting.grammar (IsGiven ps ts) sentences) same all)
+        subst (λ (us : List Token). MeanExactly g (IsGiven start.behind us) sentences) tokens
+        (subst (λ (ps : List ℕ). MeanExactly g (IsGiven ps ts) sentences) same all)
 
     module _ (fronts : FrontsParts) (read : (grammar : Grammar) (of : Kinds) (tasks : List Task) → IsProgramWith grammar of tasks parser.program parser.begins →
         All (HasTask grammar of tasks) places → AreOfKinds of ts → HoldReadings grammar of tasks (Places places) (kinds (visible ts)) fronts) where
-      pub hold : HoldReadings setting.grammar ready.of ready.tasks (Places places) (kinds (visible ts)) fronts
-      hold = read setting ready.of ready.tasks ready.parsed.program placed of_kinds
+      pub hold : HoldReadings g ready.of ready.tasks (Places places) (kinds (visible ts)) fronts
+      hold = read g ready.of ready.tasks ready.parsed.program placed of_kinds
 
       pub are_behind : {X E : Type 0} (r : Result X E) (items : X → List (List TreeMark)) →
           ((grammar : Grammar) (of : Kinds) (tasks : List Task) (aim : Aim) (ks : List ℕ) → HoldReadings grammar of tasks aim ks fronts →
@@ -107,8 +107,8 @@ module _ {typing : Typing} {parser : ParserParts} {start : ReferenceStart} {befo
           IfOk r (λ found. MeanSome grammar (items found))) →
           IfOk r (λ found. AreMarksBehind ready (items found))
       are_behind (Ok found) items all each = record {
-        all = all_after (items found) (all setting ready.of ready.tasks (Places places) (kinds (visible ts)) hold);
-        each = each setting ready.of ready.tasks (Places places) (kinds (visible ts)) hold;
+        all = all_after (items found) (all g ready.of ready.tasks (Places places) (kinds (visible ts)) hold);
+        each = each g ready.of ready.tasks (Places places) (kinds (visible ts)) hold;
       }
       are_behind (Err e) items all each = tt
 
@@ -135,29 +135,29 @@ module _ {typing : Typing} {parser : ParserParts} {start : ReferenceStart} {befo
       let comes = ready.sound.at.comes in
       let faultless = ready.parsed.faultless in record {
         grows =
-            joined (λ (text : List ℕ) (ts : List Token). GrowsRoot setting.grammar text (marks_with ready.next [] ++ n) (visible ts))
-            (blank_grows setting ready.of typing.front.now typing.rest.now typing.tokens.now blank.others.items ready.next comes.makes row ready.front_tree ready.r ready.front
-            (is_rootable setting.grammar faultless.types faultless.checks) ks n _ faultless.parser.recipes.name sentence (sym comes.kinds_are) after.1);
+            joined (λ (text : List ℕ) (ts : List Token). GrowsRoot g text (marks_with ready.next [] ++ n) (visible ts))
+            (blank_grows g ready.of typing.front.now typing.rest.now typing.tokens.now blank.others.items ready.next comes.makes row ready.front_tree ready.r ready.front
+            (is_rootable g faultless.types faultless.checks) ks n _ faultless.parser.recipes.name sentence (sym comes.kinds_are) after.1);
         reference = λ tree is.
             let (r, at) =
-            blank_reference setting ready.of typing.front.now typing.rest.now typing.tokens.now blank.others.items ready.next comes.makes row ready.front_tree ready.r ready.front n
+            blank_reference g ready.of typing.front.now typing.rest.now typing.tokens.now blank.others.items ready.next comes.makes row ready.front_tree ready.r ready.front n
             (typing.tokens.now ++ others) tree
-            (apart (λ (text : List ℕ) (ts : List Token). IsTree setting.grammar text (marks_with ready.next [] ++ n) (visible ts) ts tree) is) in
+            (apart (λ (text : List ℕ) (ts : List Token). IsTree g text (marks_with ready.next [] ++ n) (visible ts) ts tree) is) in
             (r, ap (λ (i : ℕ). slice_get tree.refs i) ready.counted ∙ at);
       }
 
   -- the marks with numbers of a blank tree
-  marks_meant : (marks all : List TreeMark) (n : List Mark) → AreMeant setting.grammar marks n → all ≡ start.marks ++ (numbered.Put start.put ∷ numbered.End ∷ marks) →
-      AreMeant setting.grammar all (marks_with ready.next [] ++ n)
+  marks_meant : (marks all : List TreeMark) (n : List Mark) → AreMeant g marks n → all ≡ start.marks ++ (numbered.Put start.put ∷ numbered.End ∷ marks) →
+      AreMeant g all (marks_with ready.next [] ++ n)
   marks_meant marks all n is are =
       let is_start = ready.sound.at.is_start in
-      subst (λ (xs : List TreeMark). AreMeant setting.grammar xs (marks_with ready.next [] ++ n)) (sym are)
-      (subst (AreMeant setting.grammar (start.marks ++ (numbered.Put start.put ∷ numbered.End ∷ marks))) (marks_are ready.next n)
-      (meant_joined setting.grammar is_start.meant (meant.more is_start.puts (meant.more meant.ends is))))
+      subst (λ (xs : List TreeMark). AreMeant g xs (marks_with ready.next [] ++ n)) (sym are)
+      (subst (AreMeant g (start.marks ++ (numbered.Put start.put ∷ numbered.End ∷ marks))) (marks_are ready.next n)
+      (meant_joined g is_start.meant (meant.more is_start.puts (meant.more meant.ends is))))
 
   abbrev blank_tree : (n : List Mark) → IsAfter n → (tree : Parts) (r : Reference) → IsTreeOfBlank typing blank (marks_with ready.next [] ++ n) tree →
       slice_get tree.refs before ≡ Some r →
-      IsBlankTree setting ready.of ready.lexicon typing.front.now typing.rest.now typing.tokens.now ready.next ready.front_tree tree r
+      IsBlankTree g ready.of ready.lexicon typing.front.now typing.rest.now typing.tokens.now ready.next ready.front_tree tree r
   blank_tree n after tree r is at = record {
     others = blank.others.items;
     cut = ready.is_blank.cut;
@@ -165,7 +165,7 @@ module _ {typing : Typing} {parser : ParserParts} {start : ReferenceStart} {befo
     after = n;
     sentence = (ready.sound.whole n after.0).1;
     kinds_are = after.1;
-    is_tree = apart (λ (text : List ℕ) (ts : List Token). IsTree setting.grammar text (marks_with ready.next [] ++ n) (visible ts) ts tree) is;
+    is_tree = apart (λ (text : List ℕ) (ts : List Token). IsTree g text (marks_with ready.next [] ++ n) (visible ts) ts tree) is;
     reference = ap (λ (i : ℕ). slice_get tree.refs i) (sym ready.counted) ∙ at;
   }
 
@@ -181,7 +181,7 @@ module _ {typing : Typing} {parser : ParserParts} {start : ReferenceStart} {befo
     behind = after.0;
   }
 
-  some_tree : (m : List Mark) (name : Option PropId) → IsNamingProperty setting.grammar name → GrowsRoot setting.grammar blank.text m (visible blank.tokens.items) →
+  some_tree : (m : List Mark) (name : Option PropId) → IsNamingProperty g name → GrowsRoot g blank.text m (visible blank.tokens.items) →
       (tree : Parts) × IsTreeOfBlank typing blank m tree
   some_tree m name named (x, follows) = (
     parts_of_tree x blank.tokens.items name,
@@ -199,7 +199,7 @@ module _ {typing : Typing} {parser : ParserParts} {start : ReferenceStart} {befo
       HasBlankTree ready.of ready.lexicon ready.tasks typing ready.next start
   has_blank_tree [] behind some = absurd (some refl)
   has_blank_tree (x ∷ xs) behind some =
-      let (n, is) = All-head (λ (marks : List TreeMark). (m : List Mark) × AreMeant setting.grammar marks m) x xs behind.each in
+      let (n, is) = All-head (λ (marks : List TreeMark). (m : List Mark) × AreMeant g marks m) x xs behind.each in
       has_tree_after n ((behind.all n).1 (0, x, omega arith, refl, is))
 
   -- where there are no such marks, nothing goes on behind the start
@@ -218,18 +218,18 @@ module _ {typing : Typing} {parser : ParserParts} {start : ReferenceStart} {befo
 
     -- by this name the reference leads somewhere in a tree of the marks that these mean behind it
     abbrev pub IsFoundBy : List TreeMark → List ℕ → Type 0
-    IsFoundBy marks name = (n : List Mark) × AreMeant setting.grammar marks n × LeadsInBlank typing trees address blank before (marks_with ready.next [] ++ n) name
+    IsFoundBy marks name = (n : List Mark) × AreMeant g marks n × LeadsInBlank typing trees address blank before (marks_with ready.next [] ++ n) name
 
     blank_name : (n : List Mark) (name : List ℕ) → IsAfter n → LeadsInBlank typing trees address blank before (marks_with ready.next [] ++ n) name → IsName name
     blank_name n name after leads = record { blank = has_tree n after leads.tree leads.r leads.is_tree leads.reference; target = leads.target }
 
     -- one number of references before it
-    one_count : (tree : Parts) (s : Reference) → IsFrontTree setting ready.of typing.front.now typing.tokens.now ready.next tree s → before ≡ length tree.refs
+    one_count : (tree : Parts) (s : Reference) → IsFrontTree g ready.of typing.front.now typing.tokens.now ready.next tree s → before ≡ length tree.refs
     one_count tree s is =
         ready.counted
-        ∙ one_place setting.grammar typing.front.now ready.next (visible typing.tokens.now) (length ready.front_tree.refs) (length tree.refs)
-        (front_counts setting typing.front.now ready.of typing.tokens.now ready.next ready.front_tree ready.r ready.front)
-        (front_counts setting typing.front.now ready.of typing.tokens.now ready.next tree s is)
+        ∙ one_place g typing.front.now ready.next (visible typing.tokens.now) (length ready.front_tree.refs) (length tree.refs)
+        (front_counts g typing.front.now ready.of typing.tokens.now ready.next ready.front_tree ready.r ready.front)
+        (front_counts g typing.front.now ready.of typing.tokens.now ready.next tree s is)
 
     name_after : (name : List ℕ) → IsName name → (n : List Mark) × IsAfter n × LeadsInBlank typing trees address blank before (marks_with ready.next [] ++ n) name
     name_after name is =
@@ -242,9 +242,9 @@ module _ {typing : Typing} {parser : ParserParts} {start : ReferenceStart} {befo
             tree = found.tree;
             r = found.r;
             is_tree =
-                joined (λ (text : List ℕ) (ts : List Token). IsTree setting.grammar text (marks_with ready.next [] ++ there.after) (visible ts) ts found.tree)
+                joined (λ (text : List ℕ) (ts : List Token). IsTree g text (marks_with ready.next [] ++ there.after) (visible ts) ts found.tree)
                 (subst (λ (ts : List Token).
-                IsTree setting.grammar (typing.front.now ++ typing.rest.now) (marks_with ready.next [] ++ there.after)
+                IsTree g (typing.front.now ++ typing.rest.now) (marks_with ready.next [] ++ there.after)
                 (visible (typing.tokens.now ++ map (moved_by (length typing.front.now)) ts)) (typing.tokens.now ++ map (moved_by (length typing.front.now)) ts) found.tree)
                 same there.is_tree);
             reference = ap (λ (i : ℕ). slice_get found.tree.refs i) (one_count found.front_tree found.front_r found.is_front) ∙ there.reference;
@@ -255,7 +255,7 @@ module _ {typing : Typing} {parser : ParserParts} {start : ReferenceStart} {befo
   -- ---- those of all sentences
 
   module _ (sentences : List (List TreeMark)) (behind : AreMarksBehind ready sentences) where
-    meant_after : (marks : List TreeMark) (n : List Mark) → Contains sentences marks → AreMeant setting.grammar marks n → IsAfter n
+    meant_after : (marks : List TreeMark) (n : List Mark) → Contains sentences marks → AreMeant g marks n → IsAfter n
     meant_after marks n (i, inside, at) means = (behind.all n).1 (i, marks, inside, at, means)
 
     pub names_of_sentences : (trees : Trees) (address name : List ℕ) → OfSome (IsFoundBy trees address) sentences name ↔ IsName trees address name
@@ -273,13 +273,13 @@ module _ {typing : Typing} {parser : ParserParts} {start : ReferenceStart} {befo
     -- one of them, and the marks with numbers of its tree
     module _ (i : ℕ) (x : List TreeMark) (inside : i < length sentences) (at : x ≡ get_or sentences i x) (all : List TreeMark)
         (are : all ≡ start.marks ++ (numbered.Put start.put ∷ numbered.End ∷ x)) where
-      grows_there : (n : List Mark) → AreMeant setting.grammar x n → AreMeant setting.grammar all (marks_with ready.next [] ++ n) × GrowsReference typing blank before (marks_with ready.next [] ++ n)
+      grows_there : (n : List Mark) → AreMeant g x n → AreMeant g all (marks_with ready.next [] ++ n) × GrowsReference typing blank before (marks_with ready.next [] ++ n)
       grows_there n is = (marks_meant x all n is are, reference_grows n (meant_after x n (i, inside, sym at) is))
 
-      meant_there : (n : List Mark) × AreMeant setting.grammar x n
-      meant_there = All-contains (λ (marks : List TreeMark). (m : List Mark) × AreMeant setting.grammar marks m) sentences x behind.each (i, inside, sym at)
+      meant_there : (n : List Mark) × AreMeant g x n
+      meant_there = All-contains (λ (marks : List TreeMark). (m : List Mark) × AreMeant g marks m) sentences x behind.each (i, inside, sym at)
 
-      pub one_grows : (m : List Mark) × AreMeant setting.grammar all m × GrowsReference typing blank before m
+      pub one_grows : (m : List Mark) × AreMeant g all m × GrowsReference typing blank before m
       one_grows =
           let (n, is) = meant_there in
           let (means, grows) = grows_there n is in
@@ -287,11 +287,11 @@ module _ {typing : Typing} {parser : ParserParts} {start : ReferenceStart} {befo
 
       -- the names of one more
       pub found_more : (trees : Trees) (address : List ℕ) (old found : List (List ℕ)) →
-          ((m : List Mark) → AreMeant setting.grammar all m → GrowsReference typing blank before m → (name : List ℕ) →
+          ((m : List Mark) → AreMeant g all m → GrowsReference typing blank before m → (name : List ℕ) →
           Contains found name ↔ LeadsInBlank typing trees address blank before m name) → Finds (IsFoundBy trees address x) old (old ++ found)
       found_more trees address old found told = record { exact = λ name. (to name, from name) }
         where
-          exact : (n : List Mark) → AreMeant setting.grammar x n → (name : List ℕ) → Contains found name ↔ LeadsInBlank typing trees address blank before (marks_with ready.next [] ++ n) name
+          exact : (n : List Mark) → AreMeant g x n → (name : List ℕ) → Contains found name ↔ LeadsInBlank typing trees address blank before (marks_with ready.next [] ++ n) name
           exact n is = let (means, grows) = grows_there n is in told (marks_with ready.next [] ++ n) means grows
 
           to : (name : List ℕ) → Contains (old ++ found) name → Contains old name ⊎ IsFoundBy trees address x name

@@ -8,7 +8,7 @@ use Rattle.lw_reading.proofs.Enclosed.{tree_encloses}
 use Rattle.lw_reading.proofs.OneRoot.{one_root}
 use Rattle.lw_reading.proofs.Typed.{tree_known}
 use Rattle.lw_places.specs.Targets.{HasTarget, renamed_to}
-use Rattle.lw_link_rules.specs.Links.{IsNumberBelow}
+use Rattle.lw_link_rules.specs.Links.{rules_of}
 use Rattle.lw_scoping.specs.Links.{Trees}
 use Rattle.lw_scoping.specs.Outward.{ContainersComeFirst}
 use Rattle.lw_grammar.specs.Marks.{Mark}
@@ -18,7 +18,7 @@ use Rattle.lw_tree.specs.Parts.{Parts}
 use Rattle.lw_complete.specs.declared.starting.Blank.{Blank}
 use Rattle.lw_complete.specs.declared.typing.Typing.{Typing}
 use Rattle.lw_complete.specs.Starts.{GrowsReference, IsTreeOfBlank, LeadsInBlank}
-use Rattle.lw_complete.specs.Typing.{grammar_of}
+use Rattle.lw_complete.specs.Typing.{grammar_of, typing_setting}
 use Rattle.lw_complete.proofs.BlankTrees.{same_refs, target_there}
 use Rattle.lw_complete.proofs.FrontNamed.{item_there}
 
@@ -49,12 +49,12 @@ module _ (typing : Typing) (blank : Blank) (before : ℕ) (m : List Mark) (grows
     reference = there.1 ∙ ap Some (sym (item_there tree.refs before there.0 r there.1 at_there))
 
     module _ (trees : Trees) (address name : List ℕ) where
-      pub leads_there : HasTarget (IsNumberBelow (grammar_of typing)) trees address tree (renamed_to name r) → LeadsInBlank typing trees address blank before m name
+      pub leads_there : HasTarget (rules_of (typing_setting typing)) trees address tree (renamed_to name r) → LeadsInBlank typing trees address blank before m name
       leads_there target = record { tree = tree; r = r; is_tree = is; reference = reference; target = target }
 
-      pub there_leads : LeadsInBlank typing trees address blank before m name → HasTarget (IsNumberBelow (grammar_of typing)) trees address tree (renamed_to name r)
+      pub there_leads : LeadsInBlank typing trees address blank before m name → HasTarget (rules_of (typing_setting typing)) trees address tree (renamed_to name r)
       there_leads leads =
-          let setting = grammar_of typing in
+          let setting = typing_setting typing in
           let refs_are : leads.tree.refs ≡ tree.refs =
           same_refs setting blank.text m (visible blank.tokens.items) blank.tokens.items leads.tree tree leads.is_tree is in
           target_there setting blank.text m (visible blank.tokens.items) blank.tokens.items leads.tree tree leads.is_tree is trees address leads.r r name

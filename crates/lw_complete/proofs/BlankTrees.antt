@@ -126,8 +126,8 @@ marks_are next n =
     sym (append_assoc next.before (Put next.prop next.op next.value ∷ []) (End ∷ n))
     ∙ sym (append_assoc (next.before ++ (Put next.prop next.op next.value ∷ [])) (End ∷ []) n)
 
-module _ (setting : Setting) (of : Kinds) (front rest : List ℕ) (tokens others : List Token) (next : ReferenceNext) (makes : MakesReference next.op next.value)
-    (row : StandInRow front 0 (visible tokens)) (front_tree : Parts) (s : Reference) (before : IsFrontTree setting of front tokens next front_tree s) where
+module _ (g : Grammar) (of : Kinds) (front rest : List ℕ) (tokens others : List Token) (next : ReferenceNext) (makes : MakesReference next.op next.value)
+    (row : StandInRow front 0 (visible tokens)) (front_tree : Parts) (s : Reference) (before : IsFrontTree g of front tokens next front_tree s) where
   abbrev pub Moved : List Token
   Moved = map (moved_by (length front)) others
 
@@ -135,28 +135,28 @@ module _ (setting : Setting) (of : Kinds) (front rest : List ℕ) (tokens others
   seen_are =
       filter-append (λ (t : Token). not t.hidden) tokens Moved ∙ ap (λ (ts : List Token). ts ++ visible Moved) (sym (append-nil (visible tokens)))
 
-  place_there : IsReferencePlace setting.grammar (front ++ rest) next (visible tokens) (length front_tree.refs)
+  place_there : IsReferencePlace g (front ++ rest) next (visible tokens) (length front_tree.refs)
   place_there =
-      place_moves setting.grammar front (front ++ rest) next (visible tokens) (visible tokens) (length front_tree.refs)
+      place_moves g front (front ++ rest) next (visible tokens) (visible tokens) (length front_tree.refs)
       (subst (λ (text : List ℕ). AreSameTokens text (front ++ rest) (visible tokens) (visible tokens)) (append-nil front) (front_kept front [] rest (visible tokens) row))
-      (front_counts setting front of tokens next front_tree s before)
+      (front_counts g front of tokens next front_tree s before)
 
-  pub blank_reference : (n : List Mark) (all : List Token) (tree : Parts) → IsTree setting.grammar (front ++ rest) (marks_with next [] ++ n) (visible (tokens ++ Moved)) all tree →
+  pub blank_reference : (n : List Mark) (all : List Token) (tree : Parts) → IsTree g (front ++ rest) (marks_with next [] ++ n) (visible (tokens ++ Moved)) all tree →
       (r : Reference) × (slice_get tree.refs (length front_tree.refs) ≡ Some r)
   blank_reference n all tree is =
       let found =
-      stands_whole setting.grammar (front ++ rest) next makes (visible tokens) [] (length front_tree.refs) place_there n (visible Moved) all tree
-      (subst (λ (ts : List Token). IsTree setting.grammar (front ++ rest) (marks_with next [] ++ n) ts all tree) seen_are is) in
+      stands_whole g (front ++ rest) next makes (visible tokens) [] (length front_tree.refs) place_there n (visible Moved) all tree
+      (subst (λ (ts : List Token). IsTree g (front ++ rest) (marks_with next [] ++ n) ts all tree) seen_are is) in
       (found.0, found.1)
 
-  pub blank_grows : IsRootable setting.grammar → (ks : List ℕ) (n : List Mark) (name : Option PropId) → IsNamingProperty setting.grammar name → IsSentence setting.grammar of (marks_with next ks ++ n) →
+  pub blank_grows : IsRootable g → (ks : List ℕ) (n : List Mark) (name : Option PropId) → IsNamingProperty g name → IsSentence g of (marks_with next ks ++ n) →
       ReadMarks (visible tokens) next.before → kinds_of n ≡ kinds (visible others) →
-      GrowsRoot setting.grammar (front ++ rest) (marks_with next [] ++ n) (visible (tokens ++ Moved))
+      GrowsRoot g (front ++ rest) (marks_with next [] ++ n) (visible (tokens ++ Moved))
   blank_grows root ks n name named sentence reads_front kinds_are =
       let found =
-      whole_blank setting.grammar of (front ++ rest) root next ks n (visible tokens) makes sentence reads_front (visible Moved) [] name named
+      whole_blank g of (front ++ rest) root next ks n (visible tokens) makes sentence reads_front (visible Moved) [] name named
       (moved_kinds (length front) others ∙ sym kinds_are) in (
         found.1.grown,
-        subst (λ (ts : List Token). FollowsMarks setting.grammar (front ++ rest) (marks_with next [] ++ n) ts (Root found.1.grown ∷ []))
+        subst (λ (ts : List Token). FollowsMarks g (front ++ rest) (marks_with next [] ++ n) ts (Root found.1.grown ∷ []))
             (sym (filter-append (λ (t : Token). not t.hidden) tokens Moved)) found.1.follows,
       )

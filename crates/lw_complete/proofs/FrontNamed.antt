@@ -42,18 +42,18 @@ item_there xs i x y at is = is ∙ get_or_from_slice_get xs i x y at
 module _ (typing : Typing) (start : ReferenceStart) (of : Kinds) (next : ReferenceNext) (at : ComesAt of typing next start) (parser : ParserParts)
     (by : (kinds : Kinds) × AreKinds (grammar_of typing) kinds × (k : ℕ) × ParsesFaultless (grammar_of typing) kinds k parser) (recipes : RecipeLists)
     (lent : recipes ≡ parser.recipes) where
-  abbrev setting : Grammar
-  setting = grammar_of typing
+  abbrev g : Grammar
+  g = grammar_of typing
 
-  faultless : ParsesFaultless setting.grammar by.0 by.2 parser
+  faultless : ParsesFaultless g by.0 by.2 parser
   faultless = by.3
 
-  are_recipes : AreRecipesOf setting.grammar recipes
-  are_recipes = subst (AreRecipesOf setting.grammar) (sym lent) faultless.parser.recipes
+  are_recipes : AreRecipesOf g recipes
+  are_recipes = subst (AreRecipesOf g) (sym lent) faultless.parser.recipes
 
-  grow : GrowsOpen setting.grammar typing.front.now next.before (visible typing.tokens.now) × GrowsOpen setting.grammar typing.front.now (marks_with next []) (visible typing.tokens.now)
+  grow : GrowsOpen g typing.front.now next.before (visible typing.tokens.now) × GrowsOpen g typing.front.now (marks_with next []) (visible typing.tokens.now)
   grow =
-      both_grow setting of faultless.types faultless.checks next typing.tokens.now at.comes typing.front.now parser.recipes.naming faultless.parser.recipes.name
+      both_grow g of faultless.types faultless.checks next typing.tokens.now at.comes typing.front.now parser.recipes.naming faultless.parser.recipes.name
 
   -- what is asked for, and what is got, where a tree of these marks is made
   abbrev pub Asks : List TreeMark → Type 0
@@ -67,27 +67,27 @@ module _ (typing : Typing) (start : ReferenceStart) (of : Kinds) (next : Referen
       GrowsOpen grammar typing.front.now m (visible typing.tokens.now) →
       IsOpenedTree grammar typing.front.now m (visible typing.tokens.now) typing.tokens.now tree
 
-  before_meant : (marks : List TreeMark) → marks ≡ start.marks → AreMeant setting.grammar marks next.before
-  before_meant marks same = subst (λ (xs : List TreeMark). AreMeant setting.grammar xs next.before) (sym same) at.is_start.meant
+  before_meant : (marks : List TreeMark) → marks ≡ start.marks → AreMeant g marks next.before
+  before_meant marks same = subst (λ (xs : List TreeMark). AreMeant g xs next.before) (sym same) at.is_start.meant
 
   pub asks_before : (marks : List TreeMark) → marks ≡ start.marks → Asks marks
-  asks_before marks same = (setting, next.before, are_recipes, before_meant marks same, grow.0)
+  asks_before marks same = (g, next.before, are_recipes, before_meant marks same, grow.0)
 
-  behind_meant : (marks : List TreeMark) → marks ≡ start.marks ++ (numbered.Put start.put ∷ numbered.End ∷ []) → AreMeant setting.grammar marks (marks_with next [])
+  behind_meant : (marks : List TreeMark) → marks ≡ start.marks ++ (numbered.Put start.put ∷ numbered.End ∷ []) → AreMeant g marks (marks_with next [])
   behind_meant marks same =
-      subst (λ (xs : List TreeMark). AreMeant setting.grammar xs (marks_with next [])) (sym same)
-      (subst (AreMeant setting.grammar (start.marks ++ (numbered.Put start.put ∷ numbered.End ∷ []))) (marks_are next [] ∙ append-nil (marks_with next []))
-      (meant_joined setting.grammar at.is_start.meant (meant.more at.is_start.puts (meant.more meant.ends meant.none))))
+      subst (λ (xs : List TreeMark). AreMeant g xs (marks_with next [])) (sym same)
+      (subst (AreMeant g (start.marks ++ (numbered.Put start.put ∷ numbered.End ∷ []))) (marks_are next [] ∙ append-nil (marks_with next []))
+      (meant_joined g at.is_start.meant (meant.more at.is_start.puts (meant.more meant.ends meant.none))))
 
   pub asks_behind : (marks : List TreeMark) → marks ≡ start.marks ++ (numbered.Put start.put ∷ numbered.End ∷ []) → Asks marks
-  asks_behind marks same = (setting, marks_with next [], are_recipes, behind_meant marks same, grow.1)
+  asks_behind marks same = (g, marks_with next [], are_recipes, behind_meant marks same, grow.1)
 
   pub both_made : (marks all : List TreeMark) → marks ≡ start.marks → all ≡ start.marks ++ (numbered.Put start.put ∷ numbered.End ∷ []) →
       (tree behind : Parts) → Gets marks tree → Gets all behind → AreFrontTrees of typing next record { tree = tree; behind = behind }
   both_made marks all same same_all tree behind gets gets_behind =
-      let is = gets setting next.before are_recipes (before_meant marks same) grow.0 in
-      let was = gets_behind setting (marks_with next []) are_recipes (behind_meant all same_all) grow.1 in
-      let (r, reference) = reference_behind setting of faultless.types faultless.checks next typing.tokens.now at.comes typing.front.now is was in
+      let is = gets g next.before are_recipes (before_meant marks same) grow.0 in
+      let was = gets_behind g (marks_with next []) are_recipes (behind_meant all same_all) grow.1 in
+      let (r, reference) = reference_behind g of faultless.types faultless.checks next typing.tokens.now at.comes typing.front.now is was in
       record { r = r; is_tree = record { opened = is; behind = behind; opened_behind = was; reference = reference }; behind = refl }
 
 -- ---- what is known of them

@@ -5,7 +5,7 @@ use Rattle.lw_base.specs.declared.numbers.PropId.{PropId}
 use Rattle.lw_base.specs.declared.token.Token.{Token}
 use Rattle.lw_faults.specs.Faults.{IsCheckFault, IsTypeFault}
 use Rattle.lw_grammar.specs.declared.fault.GrammarFault.{GrammarFault}
-use Rattle.lw_link_rules.specs.Setting.{Setting}
+use Rattle.lw_grammar.specs.declared.grammar.Grammar.{Grammar}
 use Rattle.lw_grammar.specs.Kinds.{Kinds}
 use Rattle.lw_reading.specs.Numbers.{IsNamingProperty}
 use Rattle.lw_reading.specs.Trees.{IsOpenedTree}
@@ -20,8 +20,8 @@ use Rattle.lw_substitution.proofs.Blank.{begun_blank}
 use Rattle.lw_complete.proofs.FrontCounts.{stands_behind}
 use Rattle.lw_complete.proofs.FrontPlain.{ReadPlainly, sentence_plainly}
 
-module _ (setting : Setting) (of : Kinds) (no_type_fault : (f : GrammarFault) → ¬ IsTypeFault setting.grammar f) (no_check_fault : (f : GrammarFault) → ¬ IsCheckFault setting.grammar f)
-    (next : ReferenceNext) (tokens : List Token) (comes : ComesNext setting of tokens next) where
+module _ (g : Grammar) (of : Kinds) (no_type_fault : (f : GrammarFault) → ¬ IsTypeFault g f) (no_check_fault : (f : GrammarFault) → ¬ IsCheckFault g f)
+    (next : ReferenceNext) (tokens : List Token) (comes : ComesNext g of tokens next) where
   abbrev Behind : List Mark
   Behind = token_marks comes.some_kinds ++ (End ∷ [] ++ comes.after)
 
@@ -29,17 +29,17 @@ module _ (setting : Setting) (of : Kinds) (no_type_fault : (f : GrammarFault) �
   read_plainly =
       let put : List Mark = Put next.prop next.op next.value ∷ token_marks comes.some_kinds in
       subst ReadPlainly (append_assoc (next.before ++ put) (End ∷ []) comes.after ∙ append_assoc next.before put (End ∷ [] ++ comes.after))
-      (sentence_plainly setting.grammar no_check_fault of comes.sentence)
+      (sentence_plainly g no_check_fault of comes.sentence)
 
   module _ (text : List ℕ) where
-    pub reference_behind : {tree behind : Parts} → IsOpenedTree setting.grammar text next.before (visible tokens) tokens tree →
-        IsOpenedTree setting.grammar text (marks_with next []) (visible tokens) tokens behind → (r : Reference) × (slice_get behind.refs (length tree.refs) ≡ Some r)
-    reference_behind is was = stands_behind setting.grammar text next comes.makes Behind read_plainly (visible tokens) is was
+    pub reference_behind : {tree behind : Parts} → IsOpenedTree g text next.before (visible tokens) tokens tree →
+        IsOpenedTree g text (marks_with next []) (visible tokens) tokens behind → (r : Reference) × (slice_get behind.refs (length tree.refs) ≡ Some r)
+    reference_behind is was = stands_behind g text next comes.makes Behind read_plainly (visible tokens) is was
 
-    pub both_grow : (name : Option PropId) → IsNamingProperty setting.grammar name →
-        GrowsOpen setting.grammar text next.before (visible tokens) × GrowsOpen setting.grammar text (marks_with next []) (visible tokens)
+    pub both_grow : (name : Option PropId) → IsNamingProperty g name →
+        GrowsOpen g text next.before (visible tokens) × GrowsOpen g text (marks_with next []) (visible tokens)
     both_grow name named =
         let (before, behind, is, was) =
-        begun_blank setting.grammar of text (is_rootable setting.grammar no_type_fault no_check_fault) next comes.some_kinds comes.after (visible tokens) comes.makes comes.sentence
+        begun_blank g of text (is_rootable g no_type_fault no_check_fault) next comes.some_kinds comes.after (visible tokens) comes.makes comes.sentence
         (sym comes.kinds_are) tokens name named in
         ((is.brackets, is.grown, is.follows, is.closes), (was.brackets, was.grown, was.follows, was.closes))

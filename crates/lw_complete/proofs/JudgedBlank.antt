@@ -8,6 +8,7 @@ use Rattle.lw_base.specs.declared.token.Span.{Span}
 use Rattle.lw_base.specs.declared.token.Token.{Token}
 use Rattle.lw_viable.specs.Gives.{PlacesGive}
 use Rattle.lw_grammar.specs.declared.grammar.Grammar.{Grammar}
+use Rattle.lw_link_rules.specs.Setting.{Setting}
 use Rattle.lw_grammar.specs.Kinds.{Kinds}
 use Rattle.lw_reading.specs.Brackets.{span_of_tokens}
 use Rattle.lw_places.specs.Starting.{ComesNext, ReferenceNext}
@@ -47,7 +48,7 @@ use Rattle.lw_complete.specs.declared.written.Written.{Written}
 use Rattle.lw_complete.specs.Judged.{IsJudgement, LeadsWhole, StandsWhole}
 use Rattle.lw_complete.specs.Starts.{AreBlankNames, AreTried, BeginsAt, GivesKinds, GoesOnBehind, HasBlankTree, IsBlankKnown, IsSaidBy, IsStartNext, IsWritten, MeetsRest, TakesAll}
 use Rattle.lw_complete.specs.Tried.{IsWrittenFor}
-use Rattle.lw_complete.specs.Typing.{IsTypedBy, grammar_of}
+use Rattle.lw_complete.specs.Typing.{IsTypedBy, grammar_of, typing_setting}
 use Rattle.lw_complete.proofs.WrittenThere.{kinds_there}
 
 -- ---- what is looked for at each start
@@ -98,8 +99,8 @@ over (Some next) P (inl none) = absurd (not_none none)
 over (Some next) P (inr (other, same, is)) = subst P (sym (same_Some next other same)) is
 
 module _ (of : Kinds) (lexicon : Lexicon) (typing : Typing) (typed : IsTypedBy of lexicon typing) (one_way : IsReadOneWay (grammar_of typing)) where
-  abbrev setting : Grammar
-  setting = grammar_of typing
+  abbrev setting : Setting
+  setting = typing_setting typing
 
   apart : AreKeywords lexicon.keywords
   apart = told_apart setting.grammar of lexicon one_way typed.are_kinds typed.is_lexicon
@@ -208,7 +209,7 @@ module _ (of : Kinds) (lexicon : Lexicon) (typing : Typing) (typed : IsTypedBy o
             no_sentence setting.grammar of lexicon apart typed.are_kinds typed.is_lexicon typing.front.now name typing.rest.now typing.tokens.now placed others (around others cut) tree r
             stands some
             (λ next after makes kinds_are sentence goes_on.
-            let comes : ComesNext setting of typing.tokens.now next =
+            let comes : ComesNext setting.grammar of typing.tokens.now next =
             record { kinds_are = kinds_are; makes = makes; some_kinds = kinds (visible placed); after = after; sentence = sentence } in
             let at : BeginsAt of tasks typing known next (kinds (visible placed)) after = tried.all next comes (kinds (visible placed)) after sentence in
             let blank = All-contains (IsBlankKnown of lexicon tasks typing trees address) known at.one tried.blank at.among in

@@ -2,7 +2,7 @@
 use Rattle.std.proofs.Common.{◌≡◌, ◌⊎◌, inl, inr, ◌++◌, ◌∷◌, [], ℕ, List, Contains, sym, subst}
 use Rattle.std.proofs.lemmas.List.Elements.{Contains-append_left, Contains-push, Contains-push_cases}
 use Rattle.lw_places.specs.Targets.{HasTarget}
-use Rattle.lw_link_rules.specs.Links.{IsNumberBelow}
+use Rattle.lw_link_rules.specs.Links.{rules_of}
 use Rattle.lw_scoping.specs.Links.{Trees}
 use Rattle.lw_tree.specs.declared.node.Reference.{Reference}
 use Rattle.lw_tree.specs.Parts.{Parts}
@@ -10,14 +10,14 @@ use Rattle.lw_complete.specs.declared.judging.Judgement.{Judgement}
 use Rattle.lw_complete.specs.declared.judging.Judgement.TheVariants.{Leads, LeadsNowhere, NoReference}
 use Rattle.lw_complete.specs.declared.typing.Typing.{Typing}
 use Rattle.lw_complete.specs.Judged.{IsToldOf, SomeLeads, StandsBetween}
-use Rattle.lw_complete.specs.Typing.{grammar_of}
+use Rattle.lw_complete.specs.Typing.{typing_setting}
 
 module _ (typing : Typing) (trees : Trees) (address : List ℕ) (tree : Parts) (start end : ℕ) where
   abbrev Told : List Reference → Judgement → Type 0
   Told = IsToldOf typing trees address tree start end
 
   abbrev LeadsThere : Reference → Type 0
-  LeadsThere = HasTarget (IsNumberBelow (grammar_of typing)) trees address tree
+  LeadsThere = HasTarget (rules_of (typing_setting typing)) trees address tree
 
   abbrev Leading : List Reference → Type 0
   Leading refs = SomeLeads typing trees address tree start end refs

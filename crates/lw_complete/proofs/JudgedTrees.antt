@@ -22,7 +22,7 @@ use Rattle.lw_complete.specs.declared.judging.Judgement.{Judgement}
 use Rattle.lw_complete.specs.declared.judging.Judgement.TheVariants.{Leads, LeadsNowhere, NoReference}
 use Rattle.lw_complete.specs.declared.typing.Typing.{Typing}
 use Rattle.lw_complete.specs.Judged.{IsJudgement, IsToldOf, StandsBetween, StandsWhole}
-use Rattle.lw_complete.specs.Typing.{grammar_of}
+use Rattle.lw_complete.specs.Typing.{grammar_of, typing_setting}
 
 same_as_itself : (tree : Parts) → SameTables tree tree
 same_as_itself tree = record { nodes = refl; values = λ n p. refl; refs = refl; tokens = refl; name = refl }
@@ -107,7 +107,7 @@ module _ (typing : Typing) (one_way : IsReadOneWay (grammar_of typing)) (trees :
             r,
             there_too other r stands,
             (stands.starts, stands.ends),
-            target_over (grammar_of typing) trees address other tree r (turned (same_trees one_way is stands.reads)) target,
+            target_over (typing_setting typing) trees address other tree r (turned (same_trees one_way is stands.reads)) target,
           ),
     )
     judged NoReference none = λ other r stands. none r (there_too other r stands) (stands.starts, stands.ends)

@@ -4,7 +4,6 @@ use Rattle.std.proofs.lemmas.Option.{same_Some}
 use Rattle.lw_base.specs.declared.numbers.PropId.{PropId}
 use Rattle.lw_base.specs.declared.token.Token.{Token}
 use Rattle.lw_grammar.specs.declared.grammar.Grammar.{Grammar}
-use Rattle.lw_link_rules.specs.Setting.{Setting}
 use Rattle.lw_grammar.specs.Kinds.{Kinds}
 use Rattle.lw_reading.specs.Brackets.{Bracket}
 use Rattle.lw_reading.specs.Follows.{Closes}
@@ -21,7 +20,7 @@ use Rattle.lw_tree.specs.Parts.{Parts, SameTables, values_at}
 use Rattle.lw_complete.specs.declared.starting.FrontNames.{FrontNames}
 use Rattle.lw_complete.specs.declared.typing.Typing.{Typing}
 use Rattle.lw_complete.specs.Starts.{AreFrontNames, LeadsInFront}
-use Rattle.lw_complete.specs.Typing.{grammar_of}
+use Rattle.lw_complete.specs.Typing.{typing_setting}
 use Rattle.lw_complete.proofs.BlankTrees.{one_naming}
 use Rattle.lw_complete.proofs.JudgedTrees.{target_over}
 
@@ -41,11 +40,11 @@ one_opened g text m seen tokens a b is was =
       name = named;
     }
 
-one_front : (setting : Setting) (of : Kinds) (front : List ℕ) (tokens : List Token) (next : ReferenceNext) (a b : Parts) (r s : Reference) →
-    IsFrontTree setting of front tokens next a r → IsFrontTree setting of front tokens next b s → SameTables a b × (r ≡ s)
-one_front setting of front tokens next a b r s is was =
-    let tree = one_opened setting.grammar front _ _ tokens a b is.opened was.opened in
-    let behind = one_opened setting.grammar front _ _ tokens is.behind was.behind is.opened_behind was.opened_behind in (
+one_front : (g : Grammar) (of : Kinds) (front : List ℕ) (tokens : List Token) (next : ReferenceNext) (a b : Parts) (r s : Reference) →
+    IsFrontTree g of front tokens next a r → IsFrontTree g of front tokens next b s → SameTables a b × (r ≡ s)
+one_front g of front tokens next a b r s is was =
+    let tree = one_opened g front _ _ tokens a b is.opened was.opened in
+    let behind = one_opened g front _ _ tokens is.behind was.behind is.opened_behind was.opened_behind in (
       tree,
       same_Some r s
           (sym is.reference ∙ ap₂ (λ (xs ys : List Reference). slice_get xs (length ys)) behind.refs tree.refs ∙ was.reference),
@@ -55,7 +54,7 @@ one_front setting of front tokens next a b r s is was =
 pub leads_by : (of : Kinds) (typing : Typing) (trees : Trees) (address : List ℕ) (next : ReferenceNext) (found : FrontNames) →
     AreFrontNames of typing trees address next found → (name : List ℕ) → LeadsInFront of typing trees address next name → Contains found.names name
 leads_by of typing trees address next found are name (tree, r, is, target) =
-    let setting = grammar_of typing in
-    let (same, reference) = one_front setting of typing.front.now typing.tokens.now next tree are.tree r are.r is are.is_tree in
+    let setting = typing_setting typing in
+    let (same, reference) = one_front setting.grammar of typing.front.now typing.tokens.now next tree are.tree r are.r is are.is_tree in
     let there : HasTarget (rules_of setting) trees address are.tree (renamed_to name r) = target_over setting trees address tree are.tree (renamed_to name r) same target in
     (are.exact name).1 (subst (λ (x : Reference). HasTarget (rules_of setting) trees address are.tree (renamed_to name x)) reference there)

@@ -28,7 +28,7 @@ use Rattle.lw_complete.specs.declared.known.Known.{Known}
 use Rattle.lw_complete.specs.declared.typing.Typing.{Typing}
 use Rattle.lw_complete.specs.Judged.{LeadsWhole, StandsWhole}
 use Rattle.lw_complete.specs.Starts.{BeginsAt, ComesAt, IsBlankName, IsNameFoundAt, IsKnownStart, IsOfferedBy, IsParsedBy, IsStartOf, LeadsInFront}
-use Rattle.lw_complete.specs.Typing.{grammar_of, kinds_before}
+use Rattle.lw_complete.specs.Typing.{grammar_of, kinds_before, typing_setting}
 use Rattle.lw_complete.proofs.NamedFront.{leads_by}
 use Rattle.lw_complete.proofs.NamedNext.{IsStart, begins, reads_so}
 
@@ -41,10 +41,10 @@ module _ (typing : Typing) (of : Kinds) (lexicon : Lexicon) (tasks : List Task) 
     (all : AreReferenceStarts (grammar_of typing) of tasks parser.recipes (IsSentence (grammar_of typing) of) (kinds_before typing) starts) (trees : Trees)
     (address : List ℕ) where
   abbrev IsNext : List ℕ → Type 0
-  IsNext = IsNameNext (grammar_of typing) of lexicon trees address typing.front.now typing.rest.now typing.tokens.now
+  IsNext = IsNameNext (typing_setting typing) of lexicon trees address typing.front.now typing.rest.now typing.tokens.now
 
   abbrev IsFound : List ℕ → Type 0
-  IsFound = IsFoundNext (grammar_of typing) of lexicon trees address typing.front.now typing.rest.now typing.tokens.now
+  IsFound = IsFoundNext (typing_setting typing) of lexicon trees address typing.front.now typing.rest.now typing.tokens.now
 
   abbrev pub IsFoundBySome : List ℕ → Type 0
   IsFoundBySome name = (start : ReferenceStart) × Contains starts start × IsNameFoundAt of lexicon tasks typing trees address start name
@@ -52,7 +52,7 @@ module _ (typing : Typing) (of : Kinds) (lexicon : Lexicon) (tasks : List Task) 
   -- ---- what is found is found at a start
 
   by_start : (name : List ℕ) (next : ReferenceNext) → ComesNext (grammar_of typing) of typing.tokens.now next →
-      IsFindable (grammar_of typing) of lexicon trees address typing.front.now typing.rest.now typing.tokens.now next name → IsFoundBySome name
+      IsFindable (typing_setting typing) of lexicon trees address typing.front.now typing.rest.now typing.tokens.now next name → IsFoundBySome name
   by_start name next comes (find.in_front {tree} {r} is target) =
       let b = begins typing of tasks parser parsed starts all next comes comes.some_kinds comes.after comes.sentence in
       (b.start, b.among, (next, record { is_start = b.is_start; comes = comes }, inl (tree, r, is, target)))
@@ -72,7 +72,7 @@ module _ (typing : Typing) (of : Kinds) (lexicon : Lexicon) (tasks : List Task) 
 
   findable : (name : List ℕ) (next : ReferenceNext) (start : ReferenceStart) →
       LeadsInFront of typing trees address next name ⊎ IsBlankName of typing trees address lexicon tasks next start name →
-      IsFindable (grammar_of typing) of lexicon trees address typing.front.now typing.rest.now typing.tokens.now next name
+      IsFindable (typing_setting typing) of lexicon trees address typing.front.now typing.rest.now typing.tokens.now next name
   findable name next start (inl (tree, r, is, target)) = find.in_front is target
   findable name next start (inr is) = find.in_whole is.blank.is_front is.blank.is_tree is.target
 
@@ -108,7 +108,7 @@ module _ (typing : Typing) (of : Kinds) (lexicon : Lexicon) (tasks : List Task) 
     leads_there : (name : List ℕ) (next : ReferenceNext) (one : Known) → Contains known one → ComesAt of typing next one.start.now → (judged : Bool) →
         (IsTrue judged → Contains one.front.names name) →
         LeadsWhole typing trees address name ⊎ (IsTrue judged × ((tree : Parts) (r : Reference) → ¬ StandsWhole typing trees address name tree r)) →
-        LeadsSomewhere (grammar_of typing) of lexicon trees address typing.front.now typing.rest.now typing.tokens.now next name
+        LeadsSomewhere (typing_setting typing) of lexicon trees address typing.front.now typing.rest.now typing.tokens.now next name
     leads_there name next one among at judged leads (inl (tree, r, stands, target)) = offer.in_whole stands target
     leads_there name next one among at judged leads (inr (is, none)) =
         let told = (All-contains (IsKnownStart of typing trees address) known one are_known among).told next at in
@@ -144,7 +144,7 @@ module _ (typing : Typing) (of : Kinds) (lexicon : Lexicon) (tasks : List Task) 
       whole : LeadsWhole typing trees address name ⊎ (IsTrue judged × ((tree : Parts) (r : Reference) → ¬ StandsWhole typing trees address name tree r))
 
     judge : (name : List ℕ) (next : ReferenceNext) (one : Known) → Contains known one → ComesAt of typing next one.start.now →
-        LeadsSomewhere (grammar_of typing) of lexicon trees address typing.front.now typing.rest.now typing.tokens.now next name → Judgement name next one
+        LeadsSomewhere (typing_setting typing) of lexicon trees address typing.front.now typing.rest.now typing.tokens.now next name → Judgement name next one
     judge name next one among at (offer.in_whole {tree} {r} stands target) =
         record { judged = false; leads = λ is. absurd (true≢false (sym is)); whole = inl (tree, r, stands, target) }
     judge name next one among at (offer.in_front {tree} {r} none is target) =

@@ -6,7 +6,6 @@ use Rattle.lw_base.specs.declared.token.Token.{Token}
 use Rattle.lw_faults.specs.Faults.{IsCheckFault, IsTypeFault}
 use Rattle.lw_grammar.specs.declared.fault.GrammarFault.{GrammarFault}
 use Rattle.lw_grammar.specs.declared.grammar.Grammar.{Grammar}
-use Rattle.lw_link_rules.specs.Setting.{Setting}
 use Rattle.lw_grammar.specs.declared.rule.Op.{Op}
 use Rattle.lw_grammar.specs.declared.rule.Value0.{Value0}
 use Rattle.lw_grammar.specs.Kinds.{Kinds}
@@ -37,10 +36,10 @@ module _ (g : Grammar) (text : List ℕ) where
   reference_read makes (reads follows number does) = put_read makes does
 
 -- whatever the text is
-pub next_read : (setting : Setting) (of : Kinds) → ((f : GrammarFault) → ¬ IsTypeFault setting.grammar f) → ((f : GrammarFault) → ¬ IsCheckFault setting.grammar f) → (next : ReferenceNext)
-    (tokens : List Token) → ComesNext setting of tokens next → (name : Option PropId) → IsNamingProperty setting.grammar name → (text : List ℕ) → IsReadAs setting.grammar text next.value
-next_read setting of types checks next tokens comes name named text =
-    let (stack, x, follows, closes) = (both_grow setting of types checks next tokens comes text name named).1 in
-    let all : FollowsMarks setting.grammar text (marks_with next []) (visible tokens ++ []) stack =
-    subst (λ (ts : List Token). FollowsMarks setting.grammar text (marks_with next []) ts stack) (sym (append-nil (visible tokens))) follows in
-    reference_read setting.grammar text comes.makes (reads_reference setting.grammar text next.before next.prop next.op next.value (visible tokens) [] stack (sym comes.kinds_are) all)
+pub next_read : (g : Grammar) (of : Kinds) → ((f : GrammarFault) → ¬ IsTypeFault g f) → ((f : GrammarFault) → ¬ IsCheckFault g f) → (next : ReferenceNext)
+    (tokens : List Token) → ComesNext g of tokens next → (name : Option PropId) → IsNamingProperty g name → (text : List ℕ) → IsReadAs g text next.value
+next_read g of types checks next tokens comes name named text =
+    let (stack, x, follows, closes) = (both_grow g of types checks next tokens comes text name named).1 in
+    let all : FollowsMarks g text (marks_with next []) (visible tokens ++ []) stack =
+    subst (λ (ts : List Token). FollowsMarks g text (marks_with next []) ts stack) (sym (append-nil (visible tokens))) follows in
+    reference_read g text comes.makes (reads_reference g text next.before next.prop next.op next.value (visible tokens) [] stack (sym comes.kinds_are) all)

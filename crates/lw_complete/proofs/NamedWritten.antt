@@ -111,11 +111,11 @@ written_there of lexicon typing recutter written typed cuts recut cut =
 
 module _ (typing : Typing) (of : Kinds) (tasks : List Task) (parser : ParserParts) (parsed : IsParsedBy of tasks typing parser) (start : ReferenceStart)
     (next : ReferenceNext) (at : ComesAt of typing next start) where
-  abbrev setting : Grammar
-  setting = grammar_of typing
+  abbrev g : Grammar
+  g = grammar_of typing
 
-  recipe : HasRecipe setting.grammar parser.recipes start.put next.op next.value
-  recipe = recipe_of setting.grammar parsed.faultless.parser.recipes at.is_start.puts at.comes.makes
+  recipe : HasRecipe g parser.recipes start.put next.op next.value
+  recipe = recipe_of g parsed.faultless.parser.recipes at.is_start.puts at.comes.makes
 
   pub reference_put : IsReferencePut parser.recipes start.put
   reference_put = record { recipe = recipe.recipe; made = recipe.made; refers = recipe.reference }
@@ -127,8 +127,8 @@ module _ (typing : Typing) (of : Kinds) (tasks : List Task) (parser : ParserPart
     abbrev whole : List ℕ
     whole = typing.front.now ++ written.name.now
 
-    reads : IsReadAs setting.grammar whole next.value
-    reads = next_read setting of parsed.faultless.types parsed.faultless.checks next typing.tokens.now at.comes parser.recipes.naming parsed.faultless.parser.recipes.name whole
+    reads : IsReadAs g whole next.value
+    reads = next_read g of parsed.faultless.types parsed.faultless.checks next typing.tokens.now at.comes parser.recipes.naming parsed.faultless.parser.recipes.name whole
 
     -- what the recipe says is told
     abbrev pub TellsSaid : Bool → Type 0
@@ -140,7 +140,7 @@ module _ (typing : Typing) (of : Kinds) (tasks : List Task) (parser : ParserPart
     said b told =
         let by : IsReferenceBy recipe.recipe.content = reference_by recipe.recipe.content recipe.reference in
         let tells = told recipe.recipe by.want by.form recipe.made by.is in
-        let names = says_name setting.grammar whole at.comes.makes reads recipe by.want by.form by.is (visible there) written.name.now in
+        let names = says_name g whole at.comes.makes reads recipe by.want by.form by.is (visible there) written.name.now in
         let same : said_in by.form (joined_texts whole (visible there)) ≡ said_in by.form (joined_texts written.recut.now.text (visible (added written.recut.now))) =
         ap (said_in by.form) (joined_there of lexicon typing written is) in (
           λ yes. let (wanted, rule, refers, means) = names.0 (same ∙ tells.0 yes) in record { wanted = wanted; rule = rule; refers = refers; means = means },
@@ -164,13 +164,13 @@ module _ (typing : Typing) (of : Kinds) (tasks : List Task) (parser : ParserPart
     unsaid b told not_so read = true≢false (sym ((said b told).1 read.says) ∙ not_so)
 
     pub given : (b : Bool) → TellsSaid b → b ≡ true → added written.recut.now ≢ [] → (r : Bool) →
-        IsTrue r ↔ EndsSome (PlacesGive setting.grammar of tasks (start.value ∷ [])) (kinds (visible (added written.recut.now))) → IsTrue r ↔ IsRead
+        IsTrue r ↔ EndsSome (PlacesGive g of tasks (start.value ∷ [])) (kinds (visible (added written.recut.now))) → IsTrue r ↔ IsRead
     given b told so some r gives =
         let same = kinds_there of lexicon typing written is in (
           λ ends. record {
             some = some_there (added written.recut.now) written.recut.now.from some;
-            gives = subst (EndsSome (PlacesGive setting.grammar of tasks (start.value ∷ []))) (sym same) (gives.0 ends);
+            gives = subst (EndsSome (PlacesGive g of tasks (start.value ∷ []))) (sym same) (gives.0 ends);
             says = (said b told).0 so;
           },
-          λ (read : IsRead). gives.1 (subst (EndsSome (PlacesGive setting.grammar of tasks (start.value ∷ []))) same read.gives),
+          λ (read : IsRead). gives.1 (subst (EndsSome (PlacesGive g of tasks (start.value ∷ []))) same read.gives),
         )

@@ -1,6 +1,6 @@
 -- What is told of a name once it is written, in words of the code.
 use Rattle.std.specs.Prelude.{ℕ, ◌≡◌, ◌+◌, ◌++◌, List, Contains, length}
-use Rattle.lw_link_rules.specs.Links.{IsNumberBelow}
+use Rattle.lw_link_rules.specs.Links.{rules_of}
 use Rattle.lw_scoping.specs.Links.{Trees}
 use Rattle.lw_tree.specs.declared.node.Reference.{Reference}
 use Rattle.lw_tree.specs.Parts.{Parts}
@@ -9,7 +9,7 @@ use Rattle.lw_places.specs.Targets.{HasTarget}
 use Rattle.lw_complete.specs.declared.judging.Judgement.{Judgement}
 use Rattle.lw_complete.specs.declared.judging.Judgement.TheVariants.{Leads, LeadsNowhere, NoReference}
 use Rattle.lw_complete.specs.declared.typing.Typing.{Typing}
-use Rattle.lw_complete.specs.Typing.{grammar_of}
+use Rattle.lw_complete.specs.Typing.{grammar_of, typing_setting}
 
 -- the reference takes up just these bytes
 abbrev pub StandsBetween : ℕ → ℕ → Reference → Type 0
@@ -22,7 +22,7 @@ module _ (typing : Typing) (trees : Trees) (address : List ℕ) (tree : Parts) (
 
   -- and it leads somewhere
   abbrev pub SomeLeads : Type 0
-  SomeLeads = (r : Reference) × Contains refs r × StandsBetween start end r × HasTarget (IsNumberBelow (grammar_of typing)) trees address tree r
+  SomeLeads = (r : Reference) × Contains refs r × StandsBetween start end r × HasTarget (rules_of (typing_setting typing)) trees address tree r
 
   -- whether one of those that take up just these bytes leads somewhere, if there is one
   abbrev pub IsToldOf : Judgement → Type 0
@@ -38,7 +38,7 @@ module _ (typing : Typing) (trees : Trees) (address : List ℕ) (name : List ℕ
 
   -- it leads somewhere there
   abbrev pub LeadsWhole : Type 0
-  LeadsWhole = (tree : Parts) × (r : Reference) × StandsWhole tree r × HasTarget (IsNumberBelow (grammar_of typing)) trees address tree r
+  LeadsWhole = (tree : Parts) × (r : Reference) × StandsWhole tree r × HasTarget (rules_of (typing_setting typing)) trees address tree r
 
   -- whether the reference leads somewhere, if the text has a tree with it
   abbrev pub IsJudgement : Judgement → Type 0

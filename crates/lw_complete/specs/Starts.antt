@@ -19,7 +19,7 @@ use Rattle.lw_program.specs.declared.recipes.mark.TreeMark.TheVariants as number
 use Rattle.lw_program.specs.Meant.{AreMeant, MeansMark}
 use Rattle.lw_lexer.specs.Recut.{added, added_behind}
 use Rattle.lw_reading.specs.Growing.{GrowsRoot}
-use Rattle.lw_link_rules.specs.Links.{IsNumberBelow}
+use Rattle.lw_link_rules.specs.Links.{rules_of}
 use Rattle.lw_scoping.specs.Links.{Trees}
 use Rattle.lw_grammar.specs.Marks.{Mark, Put, kinds_of}
 use Rattle.lw_grammar.specs.Sentences.{IsSentence}
@@ -39,7 +39,7 @@ use Rattle.lw_complete.specs.declared.starting.FrontNames.{FrontNames}
 use Rattle.lw_complete.specs.declared.starting.FrontTrees.{FrontTrees}
 use Rattle.lw_complete.specs.declared.typing.Typing.{Typing}
 use Rattle.lw_complete.specs.Judged.{LeadsWhole, StandsWhole}
-use Rattle.lw_complete.specs.Typing.{IsTypedBy, grammar_of}
+use Rattle.lw_complete.specs.Typing.{IsTypedBy, grammar_of, typing_setting}
 
 -- the start is one of this reference
 pub record IsStartOf (g : Grammar) (next : ReferenceNext) (start : ReferenceStart) : Type 0 where
@@ -67,13 +67,13 @@ module _ (of : Kinds) (typing : Typing) (trees : Trees) (address : List ℕ) whe
     pub tree : Parts
     pub r : Reference
     pub is_tree : IsFrontTree (grammar_of typing) of typing.front.now typing.tokens.now next tree r
-    pub exact : (name : List ℕ) → Contains found.names name ↔ HasTarget (IsNumberBelow (grammar_of typing)) trees address tree (renamed_to name r)
+    pub exact : (name : List ℕ) → Contains found.names name ↔ HasTarget (rules_of (typing_setting typing)) trees address tree (renamed_to name r)
     pub before : found.before ≡ length tree.refs
 
   -- a name by which it leads somewhere in a tree of the whole text with the reference left blank, whose marks behind it the places behind this start give
   pub record IsBlankName (lexicon : Lexicon) (tasks : List Task) (next : ReferenceNext) (start : ReferenceStart) (name : List ℕ) : Type 0 where
     pub blank : HasBlankTree of lexicon tasks typing next start
-    pub target : HasTarget (IsNumberBelow (grammar_of typing)) trees address blank.tree (renamed_to name blank.r)
+    pub target : HasTarget (rules_of (typing_setting typing)) trees address blank.tree (renamed_to name blank.r)
 
 -- so many references stand in the tree of what was read before the reference
 abbrev pub StandsBehind : Kinds → Typing → ReferenceNext → ℕ → Type 0
@@ -150,7 +150,7 @@ pub record LeadsInBlank (typing : Typing) (trees : Trees) (address : List ℕ) (
   pub r : Reference
   pub is_tree : IsTreeOfBlank typing blank m tree
   pub reference : slice_get tree.refs before ≡ Some r
-  pub target : HasTarget (IsNumberBelow (grammar_of typing)) trees address tree (renamed_to name r)
+  pub target : HasTarget (rules_of (typing_setting typing)) trees address tree (renamed_to name r)
 
 -- what a name comes to behind the text before the word: the end of that text with the name behind it, and its tokens there
 pub record IsWritten (of : Kinds) (lexicon : Lexicon) (typing : Typing) (written : Written) : Type 0 where
@@ -237,7 +237,7 @@ pub record AreTried (of : Kinds) (lexicon : Lexicon) (tasks : List Task) (typing
 abbrev pub LeadsInFront : Kinds → Typing → Trees → List ℕ → ReferenceNext → List ℕ → Type 0
 LeadsInFront of typing trees address next name =
     (tree : Parts) × (r : Reference) × IsFrontTree (grammar_of typing) of typing.front.now typing.tokens.now next tree r
-    × HasTarget (IsNumberBelow (grammar_of typing)) trees address tree (renamed_to name r)
+    × HasTarget (rules_of (typing_setting typing)) trees address tree (renamed_to name r)
 
 -- a name by which the cross-reference of the start leads somewhere, in that tree or in a tree of the whole text with the reference left blank, whose marks
 -- behind it the places behind the start give

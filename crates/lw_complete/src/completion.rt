@@ -11,7 +11,7 @@ ghost use Rattle.lw_link_rules.specs.Links.{AreTreesOfTexts, Texts};
 ghost use Rattle.lw_scoping.specs.Links.{Trees};
 ghost use Rattle.lw_tokens.specs.Lexicon.{Lexicon};
 ghost use Rattle.lw_complete.specs.Items.{TakesThePlace, item_of, items_of, offer_of};
-ghost use Rattle.lw_complete.specs.Typing.{IsTypedAmong, IsTypedBy, grammar_of};
+ghost use Rattle.lw_complete.specs.Typing.{IsTypedAmong, IsTypedBy, grammar_of, typing_setting};
 ghost use Rattle.lw_lang.specs.Language.{setting_of};
 
 use crate::item::{Item, KEYWORD_ITEM, REFERENCE_ITEM};
@@ -84,7 +84,7 @@ fn offers(alloc: Global, typing: &Typing<'_>, from: u32, to: u32) -> Result<Vec<
     requires one_way { IsReadOneWay (grammar_of typing.now) }
     ensures exact { (of : Kinds) (lexicon : Lexicon) (trees : Trees) (address : List ℕ) → IsTypedBy of lexicon typing.now →
         IsTypedAmong typing.now trees address → IfOk result (λ items. (x : Offer) → Contains (map offer_of items.items) x ↔
-        IsOffered (grammar_of typing.now) of lexicon trees address typing.now.front.now typing.now.rest.now typing.now.tokens.now typing.now.word.now x) }
+        IsOffered (typing_setting typing.now) of lexicon trees address typing.now.front.now typing.now.rest.now typing.now.tokens.now typing.now.word.now x) }
     ensures ordered { IfOk result (λ items. AllPairs OfferPrecedes (map offer_of items.items)) }
     ensures spans { IfOk result (λ items. All (TakesThePlace from to) items.items) }
 {

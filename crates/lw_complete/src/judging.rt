@@ -9,14 +9,14 @@ ghost use Rattle.lw_places.specs.Targets.{HasTarget};
 ghost use Rattle.lw_reading.specs.Laws.{IsReadOneWay};
 ghost use Rattle.lw_reading.specs.Reading.{Reads};
 ghost use Rattle.lw_reading.specs.declared.parsed.Parsed.TheVariants.{Whole};
-ghost use Rattle.lw_link_rules.specs.Links.{IsNumberBelow};
+ghost use Rattle.lw_link_rules.specs.Links.{rules_of};
 ghost use Rattle.lw_scoping.specs.Links.{Trees};
 ghost use Rattle.lw_symbols.specs.Locals.{AreLocalsOf};
 ghost use Rattle.lw_tree.specs.declared.node.Reference.{Reference as AReference};
 ghost use Rattle.lw_complete.specs.Judged.{IsJudgement, IsToldOf, StandsBetween};
 ghost use Rattle.lw_complete.specs.Starts.{AllComeNext, AreTried, GivesKinds, IsBlankKnown, IsStartNext, IsWritten, TakesAll};
 ghost use Rattle.lw_complete.specs.Tried.{AreJudgedBy, GoesOnAsBefore, IsCutBy, IsWrittenFor};
-ghost use Rattle.lw_complete.specs.Typing.{IsTypedAmong, grammar_of};
+ghost use Rattle.lw_complete.specs.Typing.{IsTypedAmong, grammar_of, typing_setting};
 ghost use Rattle.lw_complete.specs.declared.typing.Typing.{Typing as ATyping};
 
 use crate::known::Known;
@@ -267,7 +267,7 @@ fn leads(typing: &Typing<'_>, tree: &Tree, locals: &Locals, reference: &Referenc
     requires locals { AreLocalsOf tree.now locals.now }
     requires among { Contains tree.now.refs reference.now }
     ensures { (trees : Trees) (address : List ℕ) → IsTypedAmong typing.now trees address →
-        IsTrue result ↔ HasTarget (IsNumberBelow (grammar_of typing.now)) trees address tree.now reference.now }
+        IsTrue result ↔ HasTarget (rules_of (typing_setting typing.now)) trees address tree.now reference.now }
 {
     let types = typing.language.types();
     finds(tree, locals, typing.doc, reference, typing.index, types)

@@ -14,7 +14,7 @@ ghost use Rattle.lw_scoping.specs.Links.{Trees};
 ghost use Rattle.lw_tokens.specs.Lexicon.{Lexicon};
 ghost use Rattle.lw_complete.specs.Starts.{AllComeNext, IsLedBy, IsOfferedBy};
 ghost use Rattle.lw_complete.specs.Tried.{AreJudgedBy, IsCutBy, IsTypedWith, IsWrittenFor};
-ghost use Rattle.lw_complete.specs.Typing.{AreReadings, IsTypedAmong, grammar_of};
+ghost use Rattle.lw_complete.specs.Typing.{AreReadings, IsTypedAmong, grammar_of, typing_setting};
 
 use crate::judging::{Judgement, judge};
 use crate::known::{Known, known_starts};
@@ -42,7 +42,7 @@ pub(crate) fn names(
         IsTypedWith of lexicon tasks typing.now parser.now recutter.old → AreReadings of tasks typing.now fronts.old → IsReadOneWay (grammar_of typing.now) →
         IsTypedAmong typing.now trees address → IfOk result (λ found. (name : List ℕ) → Contains found.items name ↔
         (BeginsBy typing.now.word.now name
-        × IsNameNext (grammar_of typing.now) of lexicon trees address typing.now.front.now typing.now.rest.now typing.now.tokens.now name)) }
+        × IsNameNext (typing_setting typing.now) of lexicon trees address typing.now.front.now typing.now.rest.now typing.now.tokens.now name)) }
     ensures ordered { IfOk result (λ found. AllPairs (λ one other. slice_cmp nat_cmp one other ≡ Less) found.items) }
 {
     let starts = fronts.references(alloc, parser.recipes())?;

@@ -9,14 +9,14 @@ ghost use Rattle.lw_parse.specs.Parsers.{ParserParts};
 ghost use Rattle.lw_program.specs.declared.recipes.mark.TreeMark.TheVariants as mark;
 ghost use Rattle.lw_program.specs.Meant.{AreMeant};
 ghost use Rattle.lw_reading.specs.Growing.{GrowsRoot};
-ghost use Rattle.lw_link_rules.specs.Links.{IsNumberBelow};
+ghost use Rattle.lw_link_rules.specs.Links.{rules_of};
 ghost use Rattle.lw_scoping.specs.Links.{Trees};
 ghost use Rattle.lw_scoping.specs.Outward.{ContainersComeFirst};
 ghost use Rattle.lw_grammar.specs.Marks.{Mark};
 ghost use Rattle.lw_tokens.specs.Cut.{visible as visible_tokens};
 ghost use Rattle.lw_tokens.specs.Lexicon.{Lexicon};
 ghost use Rattle.lw_complete.specs.Starts.{AreBlankNames, AreFrontNames, AreFrontTrees, AreMarksBehind, ComesAt, GrowsReference, IsBlank, IsBlankName, IsBlankReady, IsTreeOfBlank, LeadsInBlank, StandsBehind};
-ghost use Rattle.lw_complete.specs.Typing.{IsTypedAmong, IsTypedBy, grammar_of};
+ghost use Rattle.lw_complete.specs.Typing.{IsTypedAmong, IsTypedBy, grammar_of, typing_setting};
 ghost use Rattle.lw_complete.specs.declared.typing.Typing.{Typing as ATyping};
 
 use crate::sorted::SortedNames;
@@ -114,7 +114,7 @@ fn names_in(
     requires known { reference.now.want.0 < length (type_names (grammar_of typing.now)) }
     ensures { (trees : Trees) (address : List ℕ) → IsTypedAmong typing.now trees address →
         IfOk result (λ names. (name : List ℕ) → Contains names.items name ↔
-        HasTarget (IsNumberBelow (grammar_of typing.now)) trees address tree.now (renamed_to name reference.now)) }
+        HasTarget (rules_of (typing_setting typing.now)) trees address tree.now (renamed_to name reference.now)) }
 {
     if reference.owner.0 as usize >= tree.len() as usize {
         return Ok(Vec::new(alloc));

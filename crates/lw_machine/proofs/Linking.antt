@@ -75,15 +75,15 @@ module _ (addresses : List (List ℕ)) (trees : Trees) (all : StandAmong address
       (λ address has. exports_there address))
 
   -- ---- links
-  module _ (rules : Rules) (decide : (a b : ℕ) → Decided (rules a b)) where
+  module _ (rules : Rules) (decide : (a b : ℕ) → Decided (rules.below a b)) where
     fits : (tree : Parts) (r : Reference) (n : ℕ) → Decided (Fits rules.below tree r n)
     fits tree r n = by (called tree n)
       where
-        check : (c : IsCalled tree n) → Decided (c.name ≡ r.name) → Decided (rules c.node.type_id.0 r.want.0) →
+        check : (c : IsCalled tree n) → Decided (c.name ≡ r.name) → Decided (rules.below c.node.type_id.0 r.want.0) →
             Decided (Fits rules.below tree r n)
         check c (inl alike) (inl wanted) =
             inl (c.node.type_id.0, subst (λ name. IsNamedNode tree n name c.node.type_id.0) alike (so_named tree n c), wanted)
-        check c (inl alike) (inr not) = inr (λ is. not (subst (λ t. rules t r.want.0) (sym (one_type tree n c r.name is.0 is.1)) is.2))
+        check c (inl alike) (inr not) = inr (λ is. not (subst (λ t. rules.below t r.want.0) (sym (one_type tree n c r.name is.0 is.1)) is.2))
         check c (inr not) wanted = inr (λ is. not (one_name tree n c r.name is.0 is.1))
 
         by : IsCalled tree n ⊎ ((name : List ℕ) (type : ℕ) → ¬ IsNamedNode tree n name type) → Decided (Fits rules.below tree r n)

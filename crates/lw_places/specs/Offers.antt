@@ -80,20 +80,20 @@ module _ (setting : Setting) (of : Kinds) (lexicon : Lexicon) (trees : Trees) (a
   -- a name is judged by that tree, and where there is none by the tree of what was read before
   pub data LeadsSomewhere (next : ReferenceNext) (name : List ℕ) : Type 0 where
     in_whole : {tree : Parts} {r : Reference} → HasReference name tree r → HasTarget (rules_of setting) trees address tree r → LeadsSomewhere next name
-    in_front : {tree : Parts} {r : Reference} → ((other : Parts) (s : Reference) → ¬ HasReference name other s) → IsFrontTree setting of front tokens next tree r →
+    in_front : {tree : Parts} {r : Reference} → ((other : Parts) (s : Reference) → ¬ HasReference name other s) → IsFrontTree setting.grammar of front tokens next tree r →
         HasTarget (rules_of setting) trees address tree (renamed_to name r) → LeadsSomewhere next name
 
   -- some cross-reference that comes next would lead somewhere by the name, by what stands around it
   pub record IsFoundNext (name : List ℕ) : Type 0 where
     pub next : ReferenceNext
-    pub comes : ComesNext setting of tokens next
+    pub comes : ComesNext setting.grammar of tokens next
     pub findable : IsFindable setting of lexicon trees address front rest tokens next name
 
   -- the name is read as a reference that comes next, and leads somewhere
   pub record IsNameNext (name : List ℕ) : Type 0 where
     pub found : IsFoundNext name
     pub next : ReferenceNext
-    pub comes : ComesNext setting of tokens next
+    pub comes : ComesNext setting.grammar of tokens next
     pub read : ReadsAsReference setting.grammar of lexicon front tokens next name
     pub leads : LeadsSomewhere next name
 

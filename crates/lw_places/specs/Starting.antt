@@ -4,6 +4,7 @@
 -- it wants.
 use Rattle.std.specs.Prelude.{ℕ, ◌≡◌, ◌⊎◌, ◌+◌, List, [], ◌∷◌, ◌++◌, Some, length, map, slice_get}
 use Rattle.lw_base.specs.declared.token.Token.{Token}
+use Rattle.lw_grammar.specs.declared.grammar.Grammar.{Grammar}
 use Rattle.lw_link_rules.specs.Setting.{Setting}
 use Rattle.lw_grammar.specs.declared.rule.Op.{Op}
 use Rattle.lw_grammar.specs.declared.rule.Value0.{Value0}
@@ -40,20 +41,20 @@ pub record ReferenceNext : Type 0 where
 abbrev pub marks_with : ReferenceNext → List ℕ → List Mark
 marks_with next ks = next.before ++ mark.Put next.prop next.op next.value ∷ token_marks ks ++ mark.End ∷ []
 
-module _ (setting : Setting) (of : Kinds) where
+module _ (g : Grammar) (of : Kinds) where
   -- the reference comes next behind these tokens: some sentence goes on so, whatever is read as it
   pub record ComesNext (tokens : List Token) (next : ReferenceNext) : Type 0 where
     pub kinds_are : kinds_of next.before ≡ kinds (visible tokens)
     pub makes : MakesReference next.op next.value
     pub some_kinds : List ℕ
     pub after : List Mark
-    pub sentence : IsSentence setting.grammar of (marks_with next some_kinds ++ after)
+    pub sentence : IsSentence g of (marks_with next some_kinds ++ after)
 
   -- the tree of what was read before the reference, and the reference as it stands behind that, without a name
   pub record IsFrontTree (front : List ℕ) (tokens : List Token) (next : ReferenceNext) (tree : Parts) (r : Reference) : Type 0 where
-    pub opened : IsOpenedTree setting.grammar front next.before (visible tokens) tokens tree
+    pub opened : IsOpenedTree g front next.before (visible tokens) tokens tree
     pub behind : Parts
-    pub opened_behind : IsOpenedTree setting.grammar front (marks_with next []) (visible tokens) tokens behind
+    pub opened_behind : IsOpenedTree g front (marks_with next []) (visible tokens) tokens behind
     pub reference : slice_get behind.refs (length tree.refs) ≡ Some r
 
   -- the tree of the whole text with the reference left blank, where it is a sentence then, and the reference there; `front_tree` is the tree before it
@@ -62,15 +63,17 @@ module _ (setting : Setting) (of : Kinds) where
     pub cut : IsCut lexicon rest others
     pub some_kinds : List ℕ
     pub after : List Mark
-    pub sentence : IsSentence setting.grammar of (marks_with next some_kinds ++ after)
+    pub sentence : IsSentence g of (marks_with next some_kinds ++ after)
     pub kinds_are : kinds_of after ≡ kinds (visible others)
-    pub is_tree : IsTree setting.grammar (front ++ rest) (marks_with next [] ++ after) (visible (tokens ++ map (moved_by (length front)) others))
+    pub is_tree : IsTree g (front ++ rest) (marks_with next [] ++ after) (visible (tokens ++ map (moved_by (length front)) others))
         (tokens ++ map (moved_by (length front)) others) tree
     pub reference : slice_get tree.refs (length front_tree.refs) ≡ Some r
 
+
+module _ (setting : Setting) (of : Kinds) where
   -- a name by which it would lead somewhere, in the one tree or the other: the trees of all documents are these, and the text stands at the address
   pub data IsFindable (lexicon : Lexicon) (trees : Trees) (address front rest : List ℕ) (tokens : List Token) (next : ReferenceNext) (name : List ℕ) : Type 0 where
-    in_front : {tree : Parts} {r : Reference} → IsFrontTree front tokens next tree r → HasTarget (rules_of setting) trees address tree (renamed_to name r) →
+    in_front : {tree : Parts} {r : Reference} → IsFrontTree setting.grammar of front tokens next tree r → HasTarget (rules_of setting) trees address tree (renamed_to name r) →
         IsFindable lexicon trees address front rest tokens next name
-    in_whole : {front_tree tree : Parts} {r s : Reference} → IsFrontTree front tokens next front_tree s → IsBlankTree lexicon front rest tokens next front_tree tree r →
+    in_whole : {front_tree tree : Parts} {r s : Reference} → IsFrontTree setting.grammar of front tokens next front_tree s → IsBlankTree setting.grammar of lexicon front rest tokens next front_tree tree r →
         HasTarget (rules_of setting) trees address tree (renamed_to name r) → IsFindable lexicon trees address front rest tokens next name

@@ -26,10 +26,10 @@ use Rattle.lw_substitution.proofs.Written.{name_for_blank}
 use Rattle.lw_substitution.proofs.Zipped.{zip_at}
 
 module _ (setting : Setting) (of : Kinds) (lexicon : Lexicon) (front name rest : List ℕ) (tokens : List Token) (next : ReferenceNext) (front_tree blank : Parts)
-    (s r : Reference) (makes : MakesReference next.op next.value) (row : StandInRow front 0 (visible tokens)) (before : IsFrontTree setting of front tokens next front_tree s)
-    (is : IsBlankTree setting of lexicon front rest tokens next front_tree blank r) (added : List Token) where
+    (s r : Reference) (makes : MakesReference next.op next.value) (row : StandInRow front 0 (visible tokens)) (before : IsFrontTree setting.grammar of front tokens next front_tree s)
+    (is : IsBlankTree setting.grammar of lexicon front rest tokens next front_tree blank r) (added : List Token) where
   place_is : IsReferencePlace setting.grammar front next (visible tokens) (length front_tree.refs)
-  place_is = front_counts setting front of tokens next front_tree s before
+  place_is = front_counts setting.grammar front of tokens next front_tree s before
 
   differs : DifferInReference setting.grammar (front ++ rest) (front ++ name ++ rest) next (length front_tree.refs) (visible tokens) (visible tokens)
       (visible (map (moved_by (length front)) is.others)) (visible (map (moved_by (length (front ++ name))) is.others))

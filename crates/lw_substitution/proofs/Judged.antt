@@ -46,8 +46,8 @@ use Rattle.lw_substitution.proofs.Rows.{row_of}
 module _ (setting : Setting) (of : Kinds) (lexicon : Lexicon) (apart : AreKeywords lexicon.keywords) (one_sentence : HasOneSentence setting.grammar) (are : AreKinds setting.grammar of)
     (is_lexicon : IsLexicon setting.grammar of lexicon) (front name rest : List ℕ) (tokens added others : List Token)
     (around : IsCutAround lexicon front name rest tokens added others) (next : ReferenceNext) (front_tree blank : Parts) (s r : Reference)
-    (short : length (front ++ name ++ rest) ≤ LONGEST_DOCUMENT) (rest_cut : IsCut lexicon rest others) (comes : ComesNext setting of tokens next)
-    (opened : IsFrontTree setting of front tokens next front_tree s) (is : IsBlankTree setting of lexicon front rest tokens next front_tree blank r)
+    (short : length (front ++ name ++ rest) ≤ LONGEST_DOCUMENT) (rest_cut : IsCut lexicon rest others) (comes : ComesNext setting.grammar of tokens next)
+    (opened : IsFrontTree setting.grammar of front tokens next front_tree s) (is : IsBlankTree setting.grammar of lexicon front rest tokens next front_tree blank r)
     (sentence : IsSentence setting.grammar of (marks_with next (kinds (visible added)) ++ is.after)) (wanted rule : List ℕ) (refers : RefersBy setting.grammar next.value wanted rule)
     (looks : LooksUp setting.grammar (front ++ name) rule (visible added) name)
     (spans : span_of_tokens (visible added) ≡ record { start = length front; end = length front + length name }) (some : visible added ≢ []) where

@@ -4,7 +4,6 @@ use Rattle.std.proofs.lemmas.List.{append-nil}
 use Rattle.std.proofs.lemmas.Option.{slice_get_within}
 use Rattle.lw_base.specs.declared.token.Token.{Token}
 use Rattle.lw_grammar.specs.declared.grammar.Grammar.{Grammar}
-use Rattle.lw_link_rules.specs.Setting.{Setting}
 use Rattle.lw_grammar.specs.declared.rule.Op.{Op}
 use Rattle.lw_grammar.specs.declared.rule.Value0.{Value0}
 use Rattle.lw_grammar.specs.Kinds.{Kinds}
@@ -29,14 +28,14 @@ use Rattle.lw_substitution.proofs.LeftOut as left
 use Rattle.lw_substitution.proofs.OneReference.{ReadsReference, reads, reads_reference, end_of_reference, start_of}
 use Rattle.lw_substitution.proofs.Stepping.{follow_alike}
 
-module _ (setting : Setting) (text : List ℕ) where
+module _ (g : Grammar) (text : List ℕ) where
   -- with or without the reference the same is left, or nothing is left out
   one_or_whole : {before : List Mark} {p : List ℕ} {op : Op} {c : Value0} {front mid : List Token} {stack bs : List Bracket} {ts : List Token} {x y : Grown} →
-      ReadsReference setting.grammar text before p op c front mid stack → FollowsMarks setting.grammar text before front bs → Closes setting.grammar text ts bs x → Closes setting.grammar text ts stack y →
+      ReadsReference g text before p op c front mid stack → FollowsMarks g text before front bs → Closes g text ts bs x → Closes g text ts stack y →
       (x ≡ y) ⊎ (points x ≡ points_open bs)
   one_or_whole {ts} {x} (reads follows number put) was closes closed =
-      let same = one_follows setting.grammar text was follows refl refl in
-      elim (close_both setting.grammar text left.node (subst (λ (bs : List Bracket). Closes setting.grammar text ts bs x) same closes) closed) [
+      let same = one_follows g text was follows refl refl in
+      elim (close_both g text left.node (subst (λ (bs : List Bracket). Closes g text ts bs x) same closes) closed) [
         | inl one ↦ inl one
         | inr whole ↦ inr (whole.0 ∙ ap points_open (sym same))
       ]
@@ -46,14 +45,14 @@ module _ (setting : Setting) (text : List ℕ) where
   more_inside x y before behind r is was at same =
       omega (arith, slice_get_within behind (length before) r at, ap length is, ap length was, ap (λ (z : Grown). length (refs 0 z)) same)
 
-  pub front_counts : (of : Kinds) (tokens : List Token) (next : ReferenceNext) (tree : Parts) (r : Reference) → IsFrontTree setting of text tokens next tree r →
-      IsReferencePlace setting.grammar text next (visible tokens) (length tree.refs)
+  pub front_counts : (of : Kinds) (tokens : List Token) (next : ReferenceNext) (tree : Parts) (r : Reference) → IsFrontTree g of text tokens next tree r →
+      IsReferencePlace g text next (visible tokens) (length tree.refs)
   front_counts of tokens next tree r is =
       let x = is.opened in
       let y = is.opened_behind in
-      let follows : FollowsMarks setting.grammar text (marks_with next []) (visible tokens ++ []) y.brackets =
-      subst (λ (ts : List Token). FollowsMarks setting.grammar text (marks_with next []) ts y.brackets) (sym (append-nil (visible tokens))) y.follows in
-      let read = reads_reference setting.grammar text next.before next.prop next.op next.value (visible tokens) [] y.brackets (kinds_read setting.grammar text (as_going setting.grammar text x.follows)) follows in
+      let follows : FollowsMarks g text (marks_with next []) (visible tokens ++ []) y.brackets =
+      subst (λ (ts : List Token). FollowsMarks g text (marks_with next []) ts y.brackets) (sym (append-nil (visible tokens))) y.follows in
+      let read = reads_reference g text next.before next.prop next.op next.value (visible tokens) [] y.brackets (kinds_read g text (as_going g text x.follows)) follows in
       record {
         brackets = x.brackets;
         follows = x.follows;

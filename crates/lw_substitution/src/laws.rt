@@ -87,8 +87,8 @@ pub fn trees_differ_in_one_name()
 /// The place at which names differ is the number of references in the tree of what stands before, where the reference itself is not left out of
 /// what is opened there. It depends on what the tokens there say alone, and there is one wherever marks are followed over the reference.
 pub fn references_before_give_the_place()
-    ensures front { (setting : Setting) (of : Kinds) (front : List ℕ) (tokens : List Token) (next : ReferenceNext) (tree : Parts) (r : Reference) →
-        IsFrontTree setting of front tokens next tree r → IsReferencePlace setting.grammar front next (visible tokens) (length tree.refs) }
+    ensures front { (g : Grammar) (of : Kinds) (front : List ℕ) (tokens : List Token) (next : ReferenceNext) (tree : Parts) (r : Reference) →
+        IsFrontTree g of front tokens next tree r → IsReferencePlace g front next (visible tokens) (length tree.refs) }
     ensures texts { (g : Grammar) (text other : List ℕ) (next : ReferenceNext) (front fore : List Token) (place : ℕ) → AreSameTokens text other front fore →
         IsReferencePlace g text next front place → IsReferencePlace g other next fore place }
     ensures there { (g : Grammar) (text : List ℕ) (next : ReferenceNext) (after : List Mark) (front mid rest : List Token) (bs : List Bracket) →
@@ -145,20 +145,20 @@ pub fn alike_trees_answer_alike()
 /// that is like the blank one. At the place of the reference stands the one that was read, and it leads somewhere just when the blank one, by the
 /// name that is looked up, does so in the blank tree.
 pub fn a_blank_tree_answers_for_each_name()
-    ensures there { (setting : Setting) (of : Kinds) (lexicon : Lexicon) (front name rest : List ℕ) (tokens added all : List Token) (next : ReferenceNext)
+    ensures there { (g : Grammar) (of : Kinds) (lexicon : Lexicon) (front name rest : List ℕ) (tokens added all : List Token) (next : ReferenceNext)
         (before blank : Parts) (s r : Reference) → MakesReference next.op next.value → StandInRow front 0 (visible tokens) →
-        IsFrontTree setting of front tokens next before s → (is : IsBlankTree setting of lexicon front rest tokens next before blank r) →
-        (tree : Parts) × IsTree setting.grammar (front ++ name ++ rest) (marks_with next (kinds added) ++ is.after)
+        IsFrontTree g of front tokens next before s → (is : IsBlankTree g of lexicon front rest tokens next before blank r) →
+        (tree : Parts) × IsTree g (front ++ name ++ rest) (marks_with next (kinds added) ++ is.after)
         (visible tokens ++ added ++ visible (map (moved_by (length (front ++ name))) is.others)) all tree }
-    ensures alike { (setting : Setting) (of : Kinds) (lexicon : Lexicon) (front name rest : List ℕ) (tokens added all : List Token) (next : ReferenceNext)
+    ensures alike { (g : Grammar) (of : Kinds) (lexicon : Lexicon) (front name rest : List ℕ) (tokens added all : List Token) (next : ReferenceNext)
         (before blank tree : Parts) (s r : Reference) → MakesReference next.op next.value → StandInRow front 0 (visible tokens) →
-        IsFrontTree setting of front tokens next before s → (is : IsBlankTree setting of lexicon front rest tokens next before blank r) →
-        IsTree setting.grammar (front ++ name ++ rest) (marks_with next (kinds added) ++ is.after)
+        IsFrontTree g of front tokens next before s → (is : IsBlankTree g of lexicon front rest tokens next before blank r) →
+        IsTree g (front ++ name ++ rest) (marks_with next (kinds added) ++ is.after)
         (visible tokens ++ added ++ visible (map (moved_by (length (front ++ name))) is.others)) all tree →
         AreAlikeTrees (length before.refs) blank tree }
     ensures answers { (setting : Setting) (of : Kinds) (lexicon : Lexicon) (front name rest : List ℕ) (tokens added all : List Token) (next : ReferenceNext)
         (before blank tree : Parts) (s r : Reference) → MakesReference next.op next.value → StandInRow front 0 (visible tokens) →
-        IsFrontTree setting of front tokens next before s → (is : IsBlankTree setting of lexicon front rest tokens next before blank r) →
+        IsFrontTree setting.grammar of front tokens next before s → (is : IsBlankTree setting.grammar of lexicon front rest tokens next before blank r) →
         IsTree setting.grammar (front ++ name ++ rest) (marks_with next (kinds added) ++ is.after)
         (visible tokens ++ added ++ visible (map (moved_by (length (front ++ name))) is.others)) all tree →
         (found : Reference) × (slice_get tree.refs (length before.refs) ≡ Some found) × IsReferenceFrom setting.grammar (front ++ name ++ rest) next added found

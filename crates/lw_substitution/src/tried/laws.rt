@@ -29,7 +29,7 @@ pub fn a_name_is_judged_by_the_blank_tree()
     ensures some { (setting : Setting) (of : Kinds) (lexicon : Lexicon) (trees : Trees) (address front name rest : List ℕ) (tokens added others : List Token)
         (next : ReferenceNext) (before blank : Parts) (s r : Reference) (wanted rule : List ℕ) → IsReadOneWay setting.grammar → AreKinds setting.grammar of → IsLexicon setting.grammar of lexicon →
         length (front ++ name ++ rest) ≤ LONGEST_DOCUMENT → IsCutAround lexicon front name rest tokens added others → IsCut lexicon rest others →
-        ComesNext setting of tokens next → IsFrontTree setting of front tokens next before s → (is : IsBlankTree setting of lexicon front rest tokens next before blank r) →
+        ComesNext setting.grammar of tokens next → IsFrontTree setting.grammar of front tokens next before s → (is : IsBlankTree setting.grammar of lexicon front rest tokens next before blank r) →
         IsSentence setting.grammar of (marks_with next (kinds (visible added)) ++ is.after) → RefersBy setting.grammar next.value wanted rule →
         LooksUp setting.grammar (front ++ name) rule (visible added) name →
         span_of_tokens (visible added) ≡ record { start = length front; end = length front + length name } → visible added ≢ [] →

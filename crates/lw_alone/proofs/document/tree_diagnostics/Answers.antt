@@ -6,6 +6,7 @@ use Rattle.lw_link_rules.specs.Links.{rules_of}
 use Rattle.lw_scoping.specs.Links.{LinksTo}
 use Rattle.lw_alone.proofs.Alone.{listed, text_outwards, text_owners, text_root, text_types}
 use Rattle.lw_alone.proofs.document.tree_diagnostics.Goals as goal
+use Rattle.lw_lang.specs.Language.{setting_of}
 
 pub answers_alone-requires-clause-outwards : goal.answers_alone-requires-clause-outwards
 answers_alone-requires-clause-outwards c = text_outwards c.args.language.now.grammar c.args.document.now c.args.tree.now c.requires.reads
@@ -31,7 +32,7 @@ diagnostics_alone-requires c = record {
 
 pub returns : goal.returns
 returns c address =
-    let setting = c.args.language.now.grammar in
+    let setting = setting_of c.args.language.now in
     let tree = c.args.tree.now in
     let links = subst (λ found. AllZip (LinksTo (rules_of setting) (alone_at address tree) address tree) tree.refs (map (link_at address) found)) (sym c.as_slice.ensures.value)
     (c.in_ok-found.ensures.links setting address c.types-types.ensures) in

@@ -10,10 +10,11 @@ use Rattle.lw_tree.specs.Parts.{Tile}
 use Rattle.lw_complete.specs.Items.{offer_of}
 use Rattle.lw_complete.proofs.Completed.{answered, first_bytes, none_in_long, none_uncut, nothing, typed_as}
 use Rattle.lw_complete.proofs.completion.complete.Goals as goal
+use Rattle.lw_lang.specs.Language.{setting_of}
 
 pub returns-then-bytes-gt-LONGEST_DOCUMENT-clause-offers : goal.returns-then-bytes-gt-LONGEST_DOCUMENT-clause-offers
 returns-then-bytes-gt-LONGEST_DOCUMENT-clause-offers c texts trees address are is number =
-    let setting = c.args.language.now.grammar in
+    let setting = setting_of c.args.language.now in
     let text = c.args.text.now in
     let (of, are_kinds, is_lexicon) = c.tokens.ensures.lexicon in
     let lexicon = c.tokens.result.now.lexicon in
@@ -24,7 +25,7 @@ returns-then-bytes-gt-LONGEST_DOCUMENT-clause-offers c texts trees address are i
 
 pub returns-in-Err-NoToken-clause-offers : goal.returns-in-Err-NoToken-clause-offers
 returns-in-Err-NoToken-clause-offers c texts trees address are is number =
-    let setting = c.args.language.now.grammar in
+    let setting = setting_of c.args.language.now in
     let text = c.args.text.now in
     let off = c.args.off in
     let (of, are_kinds, is_lexicon) = c.tokens.ensures.lexicon in
@@ -41,7 +42,7 @@ returns-in-Err-NoToken-clause-offers c texts trees address are is number =
 
 pub returns-clause-offers : goal.returns-clause-offers
 returns-clause-offers c texts trees address are is number =
-    let setting = c.args.language.now.grammar in
+    let setting = setting_of c.args.language.now in
     let text = c.args.text.now in
     let off = c.args.off in
     let (of, are_kinds, is_lexicon) = c.tokens.ensures.lexicon in

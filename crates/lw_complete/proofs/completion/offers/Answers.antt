@@ -2,7 +2,7 @@ use Rattle.std.proofs.Common.{◌↔◌, ◌⊎◌, Contains, map, sym, subst}
 use Rattle.std.proofs.lemmas.Result.{IfOk-weaker}
 use Rattle.lw_places.specs.Offers.{IsOffered, Offer, keyword_offer, name_offer}
 use Rattle.lw_complete.specs.Items.{offer_of}
-use Rattle.lw_complete.specs.Typing.{AreReadings, CutsBehind, grammar_of}
+use Rattle.lw_complete.specs.Typing.{AreReadings, CutsBehind, grammar_of, typing_setting}
 use Rattle.lw_complete.proofs.Completed.{among, cut_there, cuts_made, offered, places_there}
 use Rattle.lw_complete.proofs.ParserKnown.{parsed_by}
 use Rattle.lw_complete.proofs.completion.offers.Goals as goal
@@ -50,9 +50,9 @@ names-requires-clause-known c =
 pub returns-clause-exact : goal.returns-clause-exact
 returns-clause-exact c of lexicon trees address typed here =
     let typing = c.args.typing.now in
-    let setting = grammar_of typing in
+    let setting = typing_setting typing in
     let (tasks, rule, parsed, entry) = parsed_by typing c.parser-parser.result.now c.parser-parser.ensures.parses of typed.are_kinds in
-    let readings = c.in_ok-fronts.ensures setting of tasks rule parsed.program entry typed.of_kinds in
+    let readings = c.in_ok-fronts.ensures setting.grammar of tasks rule parsed.program entry typed.of_kinds in
     let made = c.in_ok-recutter.ensures in
     let cuts : CutsBehind lexicon typing c.in_ok-recutter.recutter =
     cuts_made typing typed c.tokens-tables.result.now.lexicon c.tokens-tables.ensures.lexicon c.in_ok-recutter.recutter made.lexicon made.end made.own in

@@ -13,7 +13,7 @@ use Rattle.lw_program.specs.Making.{AreRecipesOf}
 use Rattle.lw_viable.specs.Aims.{Sentence}
 use Rattle.lw_complete.specs.declared.known.Known.{Known}
 use Rattle.lw_complete.specs.Starts.{AllComeNext, AreTried, IsBlankKnown, IsKnownStart, IsNameFoundAt, IsOfferedBy, IsStartNext}
-use Rattle.lw_complete.specs.Typing.{grammar_of, kinds_before}
+use Rattle.lw_complete.specs.Typing.{grammar_of, kinds_before, typing_setting}
 use Rattle.lw_complete.proofs.NamedKnown.{known_all}
 use Rattle.lw_complete.proofs.NamedNext.{all_next, all_starts, lent_next}
 use Rattle.lw_complete.proofs.NamedOffered.{all_begin, all_offered, names_found}
@@ -66,11 +66,11 @@ pub returns-clause-names : goal.returns-clause-names
 returns-clause-names c of lexicon tasks trees address read readings one_way among =
     let typing = c.args.typing.now in
     let parser = c.args.parser.now in
-    let setting = grammar_of typing in
+    let setting = typing_setting typing in
     let starts = c.as_slice.result.now in
     let all =
     all_starts typing of tasks parser read.parsed c.recipes.result.now c.in_ok-starts.starts.items starts c.recipes.ensures c.as_slice.ensures.value
-    (λ are. c.in_ok-starts.ensures.starts setting of tasks Sentence (kinds_before typing) readings are) in
+    (λ are. c.in_ok-starts.ensures.starts setting.grammar of tasks Sentence (kinds_before typing) readings are) in
     let next = all_next typing of tasks parser read.parsed starts all in
     let known = c.as_slice-2.result.now in
     let are_starts : map (λ (one : Known). one.start.now) known ≡ starts =

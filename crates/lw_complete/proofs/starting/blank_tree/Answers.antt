@@ -8,7 +8,7 @@ use Rattle.lw_reading.specs.Trees.{IsOpenedTree}
 use Rattle.lw_program.specs.Making.{AreRecipesOf}
 use Rattle.lw_tokens.specs.Cut.{visible}
 use Rattle.lw_complete.specs.Starts.{IsTreeOfBlank}
-use Rattle.lw_complete.specs.Typing.{grammar_of}
+use Rattle.lw_complete.specs.Typing.{grammar_of, typing_setting}
 use Rattle.lw_complete.proofs.BlankTrees.{whole_opened}
 use Rattle.lw_complete.proofs.starting.blank_tree.Goals as goal
 
@@ -30,7 +30,7 @@ tree_of-requires-clause-follows c =
 
 pub returns : goal.returns
 returns c m meant (x, follows) =
-    let setting = grammar_of c.args.typing.now in
+    let setting = typing_setting c.args.typing.now in
     let text = c.args.blank.now.text in
     let (kinds, are, k, faultless) = c.parser.ensures.parses in
     let same : c.in_ok-tokens.tokens.items ≡ c.args.blank.now.tokens.items = c.in_ok-tokens.ensures.items ∙ c.as_slice.ensures.value in
@@ -38,5 +38,5 @@ returns c m meant (x, follows) =
     (IsTreeOfBlank c.args.typing.now c.args.blank.now m) (λ tree is.
     whole_opened setting text m (visible c.args.blank.now.tokens.items) c.args.blank.now.tokens.items tree x follows
     (subst (λ (ts : List Token). IsOpenedTree setting.grammar text m (visible ts) ts tree) same is))
-    (c.tree_of.ensures setting m (Root x ∷ []) x (subst (AreRecipesOf setting.grammar) (sym c.recipes-recipes.ensures) faultless.parser.recipes) meant
+    (c.tree_of.ensures setting.grammar m (Root x ∷ []) x (subst (AreRecipesOf setting.grammar) (sym c.recipes-recipes.ensures) faultless.parser.recipes) meant
     (subst (λ (ts : List Token). FollowsMarks setting.grammar text m (visible ts) (Root x ∷ [])) (sym same) follows) f.root)

@@ -3,7 +3,7 @@ use Rattle.std.proofs.lemmas.Result.{IfOk-weaker}
 use Rattle.lw_places.specs.Targets.{HasTarget, renamed_to}
 use Rattle.lw_link_rules.specs.Links.{rules_of}
 use Rattle.lw_complete.specs.Starts.{LeadsInBlank}
-use Rattle.lw_complete.specs.Typing.{grammar_of}
+use Rattle.lw_complete.specs.Typing.{typing_setting}
 use Rattle.lw_complete.proofs.BlankNamed.{known, leads_there, outwards, root, there_leads}
 use Rattle.lw_complete.proofs.starting.names_of_blank.Goals as goal
 
@@ -25,7 +25,7 @@ names_in-requires-clause-known c =
 
 pub returns : goal.returns
 returns c m trees address meant grows among =
-    let setting = grammar_of c.args.typing.now in
+    let setting = typing_setting c.args.typing.now in
     let tree = c.in_ok-tree.tree in
     let is = c.in_ok-tree.ensures m meant grows.grows in
     let r = c.index-refs-before.result in

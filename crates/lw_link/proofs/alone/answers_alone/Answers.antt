@@ -21,7 +21,7 @@ loop-reference-preserved c = record {
 }
 
 pub returns-clause-links : goal.returns-clause-links
-returns-clause-links c setting.grammar address are =
+returns-clause-links c setting address are =
     let links : List Link = map (link_at address) c.loop-reference.found.items in
     let past : length c.refs-reference-items.result.now ≤ c.loop-reference.reference-index = omega arith in
     subst (λ (refs : List Reference). AllZip (LinksTo (rules_of setting) (alone_at address c.args.tree.now) address c.args.tree.now) refs links)

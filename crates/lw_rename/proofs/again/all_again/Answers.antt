@@ -7,6 +7,7 @@ use Rattle.lw_reading.specs.Within.{IsInText}
 use Rattle.lw_rename.specs.Rereading.{AreAgain, IsAgain, IsSpoiled}
 use Rattle.lw_rename.proofs.Rounds.{again_more, or_so, spoiled_first}
 use Rattle.lw_rename.proofs.again.all_again.Goals as goal
+use Rattle.lw_lang.specs.Language.{setting_of}
 
 pushed : {T E X : Type 0} (r : Result T E) (more same now : List X) → false ≡ is_err r → now ≡ (if is_ok r then more else same) → now ≡ more
 pushed (Ok x) more same now none is = is
@@ -25,7 +26,7 @@ again-requires c =
 
 pub returns-in-Err-clause-refused : goal.returns-in-Err-clause-refused
 returns-in-Err-clause-refused c =
-    let setting = c.args.language.now.grammar in
+    let setting = setting_of c.args.language.now in
     let new = c.args.new.now in
     let views = c.args.views.now in
     let spans = c.args.spans.now in
@@ -40,7 +41,7 @@ returns-in-Err-clause-refused c =
 
 pub reading-preserved : goal.reading-preserved
 reading-preserved c =
-    let setting = c.args.language.now.grammar in
+    let setting = setting_of c.args.language.now in
     let new = c.args.new.now in
     let views = c.args.views.now in
     let spans = c.args.spans.now in

@@ -7,11 +7,11 @@ use Rattle.lw_lang.specs.Language.{setting_of}
 
 pub returns-in-Some-clause-refused : goal.returns-in-Some-clause-refused
 returns-in-Some-clause-refused c =
-    let setting = c.args.language.now.grammar in
+    let setting = setting_of c.args.language.now in
     let v = c.args.view.now in
     let read = rw c.in-Ok-Some.field-0-is at c.in-Ok-Some.ensures in
     told_or (Spoils setting v.uri.now (replaced c.args.new.now v.text.now c.args.spans.now) c.args.tree.now) (Shape v.uri.now c.in-Some.node) c.reshaped.result c.reshaped.ensures
-    (reshaped read.0 read.1 (c.in-Some.ensures setting c.count_of_properties.ensures))
+    (reshaped read.0 read.1 (c.in-Some.ensures setting.grammar c.count_of_properties.ensures))
 
 pub returns-in-None-clause-kept : goal.returns-in-None-clause-kept
 returns-in-None-clause-kept c =

@@ -39,7 +39,7 @@ files_of-requires c =
 
 pub returns-in-Ok-files_of-clause-renamed : goal.returns-in-Ok-files_of-clause-renamed
 returns-in-Ok-files_of-clause-renamed c =
-    let setting = c.args.language.now.grammar in
+    let setting = setting_of c.args.language.now in
     let new = c.args.new_name.now in
     let views = c.args.views.now in
     let target = c.in-Ok-Some.target in
@@ -55,7 +55,7 @@ returns-in-Ok-files_of-clause-renamed c =
 
 pub returns-in-Ok-files_of-clause-within : goal.returns-in-Ok-files_of-clause-within
 returns-in-Ok-files_of-clause-within c =
-    let setting = c.args.language.now.grammar in
+    let setting = setting_of c.args.language.now in
     let views = c.args.views.now in
     let spans = c.in-Ok.spans.items in
     let files = c.in-Ok-files_of.ensures ∙ ap (files_over views) c.as_slice-2.ensures.value in

@@ -3,8 +3,8 @@ use Rattle.lw_substitution.proofs.laws.references_before_give_the_place.Goals as
 
 pub returns : goal.returns
 returns c = record {
-  front = λ setting of front tokens next tree r is. front_counts setting front of tokens next tree r is;
-  texts = λ setting text other next front fore place same is. place_moves setting.grammar text other next front fore place same is;
-  there = λ setting text next after front mid rest bs reads is. place_there setting.grammar text next after front mid rest bs reads is;
-  once = λ setting text next front place other is was. one_place setting.grammar text next front place other is was;
+  front = λ g of front tokens next tree r is. front_counts g front of tokens next tree r is;
+  texts = λ g text other next front fore place same is. place_moves g text other next front fore place same is;
+  there = λ g text next after front mid rest bs reads is. place_there g text next after front mid rest bs reads is;
+  once = λ g text next front place other is was. one_place g text next front place other is was;
 }

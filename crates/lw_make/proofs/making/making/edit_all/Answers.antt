@@ -16,7 +16,7 @@ edits-init g c = record {
 }
 
 pub edits-preserved : goal.edits-preserved
-edits-preserved setting c =
+edits-preserved g c =
     let of = c.args.workspace.now.setting in
     let start = documents c.args.workspace.now in
     let before = documents c.edits.workspace in

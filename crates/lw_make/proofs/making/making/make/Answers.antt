@@ -16,7 +16,7 @@ edit_all-requires-clause-unedited g c =
     (c.in_ok-advance.ensures.builds (made c.args.count c.args.count) c.in_ok-put_all.ensures.stands)
 
 pub returns-clause-made : goal.returns-clause-made
-returns-clause-made setting c =
+returns-clause-made g c =
     let of = c.args.language.grammar in
     let put = made c.args.count c.args.count in
     let built = documents c.advance.new.self in

@@ -15,7 +15,7 @@ returns-in_err-message-clause-cut_short g c =
     error_not_begun c.from_residual.result c.args.self.now.setting c.args.self.now.standing (message_of c.args.body.now)
 
 pub returns-in_err-replies-clause-cut_short : goal.returns-in_err-replies-clause-cut_short
-returns-in_err-replies-clause-cut_short setting c =
+returns-in_err-replies-clause-cut_short g c =
     let v = c.self.inside.workspace in
     let w = c.serve.new.workspace in
     let phase = c.self.inside.phase in
@@ -25,7 +25,7 @@ returns-in_err-replies-clause-cut_short setting c =
     rw (← c.self.view_is)
     (error_behind c.from_residual-in_err-replies.result v.setting (standing_of v phase) (standing_of w told.phase) (message_of c.args.body.now) by.asked replies told.ended
     (subst (λ (m : Message). Handles v.setting (standing_of v phase) m by.asked (standing_of w told.phase) replies told.ended) c.in_ok-message.ensures.message
-    by.handles) (subst (λ (h : Setting). IsValid h (documents w)) c.in_ok-served.ensures.setting.grammar c.agrees.ensures.agrees.valid))
+    by.handles) (subst (λ (setting : Setting). IsValid setting (documents w)) c.in_ok-served.ensures.setting.grammar c.agrees.ensures.agrees.valid))
 
 pub returns-clause-handles : goal.returns-clause-handles
 returns-clause-handles g c =
