@@ -309,6 +309,7 @@ LANGUAGE = re.compile(r"(^|[._-])language(\.now|\.old|\.new|\.result|\.result\.n
 def convert_path(node, it, wants):
     """`v.grammar` as an argument, where a setting is wanted or not"""
     before = it.text[: -len(".grammar")]
+    if ".ensures" in before or ".invariant" in before: return before + ".setting"
     if LANGUAGE.search(before) or before in ("l",) and node.file.crate != "lw_commands":
         return "(setting_of " + before + ")" if wants else it.text
     if wants: return before + ".setting"
@@ -389,7 +390,9 @@ def rewrite(node):
                 new = name_of(it.text)
                 bare = len(part) == 1 if k == 0 else part.pattern or ruled or local or known is None
                 it.out = new if bare else new + ".below"
-            elif k == 0 and len(part) == 1 and part.left and len(part.left) == 1 and is_word(part.left[0]) and part.left[0].text in settings and it.text.endswith(".grammar"):
+            elif k == 0 and len(part) == 1 and it.text.endswith(".grammar") and (
+                part.left and len(part.left) == 1 and is_word(part.left[0]) and (part.left[0].text in settings or part.left[0].out == "setting")
+                or f.crate in VIEWING and part.behind == "≡" and LANGUAGE.search(it.text[:-8]) and ".setting ≡" in "".join(t.out for t in node.toks)):
                 seen.add(id(it))
                 it.out = convert_path(node, it, True)
                 if it.out.startswith("("): it.out = it.out[1:-1]
