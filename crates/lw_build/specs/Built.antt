@@ -32,7 +32,7 @@ pub record IsWorkspaceKept (setting : Setting) (texts : List (List ℕ)) (kept :
   pub linked : is_built ≡ true → AreLinked setting kept readings led
 
 abbrev pub seen_workspace : Inside → WorkspaceView
-seen_workspace w = record { setting = w.language.grammar; kept = w.docs; is_built = w.is_built }
+seen_workspace w = record { setting = setting_of w.language; kept = w.docs; is_built = w.is_built }
 
 abbrev pub IsWorkspace : Inside → Type 0
 IsWorkspace w = IsWorkspaceKept (setting_of w.language) w.language.texts w.docs w.readings w.refs w.standing w.is_built

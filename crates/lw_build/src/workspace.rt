@@ -23,6 +23,7 @@ ghost use Rattle.lw_text.specs.declared.units.Encoding.TheVariants.{Utf16};
 ghost use Rattle.lw_build.specs.View.{documents, WorkspaceView};
 ghost use Rattle.lw_build.specs.Agreeing.{Agrees};
 ghost use Rattle.lw_build.specs.Faults.{edit_fault, HasNoRoom, IsAddRefusal, IsPutFault, IsEditFault, IsRemovalFault};
+ghost use Rattle.lw_lang.specs.Language.{setting_of};
 
 use crate::WorkFault;
 use crate::readings::Readings;
@@ -147,7 +148,7 @@ impl Workspace {
     /// A workspace of no documents. It takes no memory.
     pub fn new(alloc: Global, language: Language) -> Workspace
         requires { IsReadOneWay language.grammar }
-        ensures setting { result.setting ≡ language.grammar }
+        ensures setting { result.setting ≡ setting_of language }
         ensures empty { result.kept ≡ all.empty }
         ensures built { result.is_built ≡ true }
     {

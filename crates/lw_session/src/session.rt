@@ -9,6 +9,7 @@ ghost use Rattle.lw_conversation.specs.Opening.{HasRoom};
 ghost use Rattle.lw_conversation.specs.Sessions.{HandlesBody};
 ghost use Rattle.lw_conversation.specs.Standing.{beginning};
 ghost use Rattle.lw_session.specs.Loading.{IsLoadFault};
+ghost use Rattle.lw_lang.specs.Language.{setting_of};
 
 use crate::serving::serve;
 use crate::texts::texts_of;
@@ -81,7 +82,7 @@ impl Session {
     /// one way, as is each that [`compile`](lw_lang::compile) hands out.
     pub fn new(alloc: Global, language: Language, mode: Mode) -> Result<Session, NoMemory>
         requires { IsReadOneWay language.grammar }
-        ensures setting { IfOk result (λ session. session.setting ≡ language.grammar) }
+        ensures setting { IfOk result (λ session. session.setting ≡ setting_of language) }
         ensures standing { IfOk result (λ session. session.standing ≡ beginning []) }
     {
         Ok(Session {

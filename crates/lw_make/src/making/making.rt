@@ -42,7 +42,7 @@ pub fn make<L: Ledger>(
     requires one_way { IsReadOneWay language.grammar }
     ensures made { IfOk result (λ made. (lists : List Published) × IsMade (setting_of language) count (documents made.workspace) lists
         × IsSummary (setting_of language) (documents made.workspace) lists made.summary) }
-    ensures setting { IfOk result (λ made. made.workspace.setting ≡ language.grammar) }
+    ensures setting { IfOk result (λ made. made.workspace.setting ≡ setting_of language) }
     ensures built { IfOk result (λ made. made.workspace.is_built ≡ true) }
 {
     addresses_are_distinct();

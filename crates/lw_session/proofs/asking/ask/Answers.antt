@@ -19,7 +19,7 @@ pub returns-in_err-reply-clause-cut_short : goal.returns-in_err-reply-clause-cut
 returns-in_err-reply-clause-cut_short g c =
     error_there c.from_residual-in_err-reply.result _
     (cut_by_build c.args.workspace.now c.advance.new.self c.args.phase (asked_message c.args.asked) c.in_ok-lists.lists
-    (c.in_ok-lists.ensures.builds (documents c.args.workspace.now) c.agrees.ensures.agrees) c.agrees-2.ensures.agrees c.in_ok-lists.ensures.setting.grammar)
+    (c.in_ok-lists.ensures.builds (documents c.args.workspace.now) c.agrees.ensures.agrees) c.agrees-2.ensures.agrees c.in_ok-lists.ensures.setting)
 
 pub returns-clause-answered : goal.returns-clause-answered
 returns-clause-answered g c =
@@ -27,7 +27,7 @@ returns-clause-answered g c =
     let w = c.advance.new.self in
     let asked = c.args.asked in
     let reply = c.in_ok-reply.reply in
-    let replies = subst (λ of. RepliesTo of (documents w) (asked_message asked) reply) c.in_ok-lists.ensures.setting.grammar c.in_ok-reply.ensures in
+    let replies = subst (λ of. RepliesTo of (documents w) (asked_message asked) reply) c.in_ok-lists.ensures.setting c.in_ok-reply.ensures in
     IfOk-weaker c.tells_behind.result _ _
     (λ told is.
     subst (IsAnswered v w c.args.phase (asked_message asked) [])
@@ -40,4 +40,4 @@ pub returns-clause-cut_short : goal.returns-clause-cut_short
 returns-clause-cut_short g c =
     error_there c.tells_behind.result _
     (cut_by_build c.args.workspace.now c.advance.new.self c.args.phase (asked_message c.args.asked) c.in_ok-lists.lists
-    (c.in_ok-lists.ensures.builds (documents c.args.workspace.now) c.agrees.ensures.agrees) c.agrees-2.ensures.agrees c.in_ok-lists.ensures.setting.grammar)
+    (c.in_ok-lists.ensures.builds (documents c.args.workspace.now) c.agrees.ensures.agrees) c.agrees-2.ensures.agrees c.in_ok-lists.ensures.setting)

@@ -11,7 +11,7 @@ returns-in_err-replies-clause-cut_short g c =
     let address = c.args.address.now in
     error_there c.from_residual.result _
     (cut_in_message v c.close_document-replies.new.workspace c.args.phase (DidClose address) (closes c.args.phase c.requires address) c.agrees.ensures.agrees
-    c.agrees-2.ensures.agrees c.in_err-replies.ensures.setting.grammar (λ m. ClosesDocument v.setting m address) (λ asked n replies does. effect.closes does)
+    c.agrees-2.ensures.agrees c.in_err-replies.ensures.setting (λ m. ClosesDocument v.setting m address) (λ asked n replies does. effect.closes does)
     c.in_err-replies.ensures.lost)
 
 pub returns-clause-answered : goal.returns-clause-answered

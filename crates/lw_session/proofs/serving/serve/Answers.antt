@@ -24,7 +24,7 @@ returns-in_err-lists-clause-cut_short g c =
     let result = c.from_residual-in_err-lists.result in
     subst (λ (w : WorkspaceView). OnErr result (IsCutShort v.setting s c.args.message (standing_of w c.args.phase))) (sym c.in_err-lists.ensures.refused)
     (error_between v c.answer.new.workspace c.args.phase c.args.message c.in_ok-told.ensures.answered.asked c.in_ok-told.told c.in_ok-told.ensures.answered.answered
-    c.in_ok-told.ensures.setting.grammar result c.agrees.ensures.agrees)
+    c.in_ok-told.ensures.setting result c.agrees.ensures.agrees)
 
 pub returns-clause-served : goal.returns-clause-served
 returns-clause-served g c =
@@ -32,7 +32,7 @@ returns-clause-served g c =
     let is = by.answered in
     record {
       asked = by.asked;
-      handles = served c.args.workspace.now c.answer.new.workspace c.args.phase c.args.message by.asked c.in_ok-told.told is c.in_ok-told.ensures.setting.grammar
+      handles = served c.args.workspace.now c.answer.new.workspace c.args.phase c.args.message by.asked c.in_ok-told.told is c.in_ok-told.ensures.setting
           c.build.new.workspace c.in_ok-lists.lists (c.in_ok-lists.ensures.built is.changed is.agrees);
       by_store = by.by_store;
       counted = by.counted;

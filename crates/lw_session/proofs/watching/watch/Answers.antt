@@ -12,7 +12,7 @@ returns-in_err-replies-clause-cut_short g c =
     let changes = c.args.changes.now in
     error_there c.from_residual.result _
     (cut_between v c.see_all-replies.new.workspace c.args.phase (DidChangeWatchedFiles changes) (watches c.args.phase c.requires changes) c.agrees.ensures.agrees
-    c.agrees-2.ensures.agrees c.in_err-replies.ensures.setting.grammar changes refl c.in_err-replies.ensures.in_part)
+    c.agrees-2.ensures.agrees c.in_err-replies.ensures.setting changes refl c.in_err-replies.ensures.in_part)
 
 pub returns-clause-answered : goal.returns-clause-answered
 returns-clause-answered g c =

@@ -29,7 +29,7 @@ edits-preserved g c =
         lists ++ news,
         subst (λ (numbers : List ℕ). AreEdited of start numbers after (lists ++ news)) (sym (range_more number))
             (edited_further of start before after (range_with_len 0 number) (number ∷ []) lists news edited
-            (subst (λ (x : Setting). AreEdited x before (number ∷ []) after news) c.edits.invariant.setting.grammar one)),
+            (subst (λ (x : Setting). AreEdited x before (number ∷ []) after news) c.edits.invariant.setting one)),
         omega (arith, counted, told, c.in_ok-published.ensures, length-append lists news),
       );
       unedited = c.in_ok-told.ensures.unedited;

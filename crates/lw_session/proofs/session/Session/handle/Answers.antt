@@ -25,7 +25,7 @@ returns-in_err-replies-clause-cut_short g c =
     rw (← c.self.view_is)
     (error_behind c.from_residual-in_err-replies.result v.setting (standing_of v phase) (standing_of w told.phase) (message_of c.args.body.now) by.asked replies told.ended
     (subst (λ (m : Message). Handles v.setting (standing_of v phase) m by.asked (standing_of w told.phase) replies told.ended) c.in_ok-message.ensures.message
-    by.handles) (subst (λ (setting : Setting). IsValid setting (documents w)) c.in_ok-served.ensures.setting.grammar c.agrees.ensures.agrees.valid))
+    by.handles) (subst (λ (setting : Setting). IsValid setting (documents w)) c.in_ok-served.ensures.setting c.agrees.ensures.agrees.valid))
 
 pub returns-clause-handles : goal.returns-clause-handles
 returns-clause-handles g c =
