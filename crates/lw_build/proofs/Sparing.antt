@@ -136,7 +136,7 @@ module _ (setting : Setting) (kept : ByAddress) (are : AreNumbered kept) (readin
       reaches r still link (out {place = place} is fits least) b node same =
           subst Untouched (ap (λ (p : List ℕ × ℕ). p.0) (same_Some place (b, node) same)) (elim (untouched_or_not kept standing setting readings led place.0) [
             | inl u ↦ u
-            | inr not ↦ (let (other, there, has, (type, named, under)) = fits in absurd (still (since.elsewhere place.0 other there not place.1 type r.name has named)))
+            | inr not ↦ (let (seen, other, there, has, (type, named, under)) = fits in absurd (still (since.elsewhere place.0 other there not place.1 type r.name has named)))
           ])
       reaches r still link (nowhere is misses) b node same = absurd (none-some (b, node) same)
 

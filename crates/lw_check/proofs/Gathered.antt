@@ -5,6 +5,8 @@ use Rattle.std.specs.List.{AllZip}
 use Rattle.std.specs.Prelude.{if◌then◌else◌}
 use Rattle.std.proofs.lemmas.Bool.Decides.{nat_tests}
 use Rattle.std.proofs.lemmas.Option.{none-some, slice_get-get_or, slice_get_within}
+use Rattle.lw_link_rules.specs.Seeing.{Sees}
+use Rattle.lw_link_rules.proofs.Seeing.{sees_all}
 use Rattle.lw_link_rules.specs.Setting.{Setting}
 use Rattle.lw_index.specs.declared.parts.Answer.{Answer}
 use Rattle.lw_index.specs.declared.parts.Answer.TheVariants.{Missing}
@@ -85,8 +87,8 @@ among_all n p (x ∷ xs) v has = by ((x.0.0 == n) && (x.1.0 == p)) has (among_al
 -- `read` says where an answer leads; the least rivals of the index are the least other documents
 module _ (setting : Setting) (trees : Trees) (address : List ℕ) (tree : Parts) (answers : List Answer) (doc : ℕ) (index : Indexed) (read : Answer → Link)
     (none : read Missing ≡ None) (only : (answer : Answer) → read answer ≡ None → answer ≡ Missing)
-    (other_of : (name : List ℕ) (type : ℕ) (uri : List ℕ) → IsLeastRival index doc name type uri → IsLeastOther trees name type address uri)
-    (rival_of : (name : List ℕ) (type : ℕ) (uri : List ℕ) → IsLeastOther trees name type address uri → IsLeastRival index doc name type uri)
+    (other_of : (name : List ℕ) (type : ℕ) (uri : List ℕ) → IsLeastRival index doc name type uri → IsLeastOther (Sees setting address tree) trees name type address uri)
+    (rival_of : (name : List ℕ) (type : ℕ) (uri : List ℕ) → IsLeastOther (Sees setting address tree) trees name type address uri → IsLeastRival index doc name type uri)
     (links : AllZip (LinksTo (rules_of setting) trees address tree) tree.refs (map read answers)) where
   of_value : (v : Value) (e : Diagnostic) → Contains (values_of tree.values) v → TellsValue v e → IsDiagnosticOf setting trees address tree e
   of_value (Huge s) e has is =
@@ -178,8 +180,8 @@ pub over_index : (setting : Setting) (trees : Trees) (address : List ℕ) (tree 
     IsDocumentOf trees index doc address tree → AllZip (LinksTo (rules_of setting) trees address tree) tree.refs (map (link_of index) answers) →
     (text : List ℕ) {E : Type 0} (r : Result (List Shown) E) → IfOk r (AreToldAndShown setting.grammar tree answers doc index text) → IfOk r (AreShown setting trees address tree text)
 over_index setting trees address tree answers doc index stands own links =
-    shown_too setting trees address tree answers doc index (link_of index) refl (missing index) (least_other trees index doc address tree stands own)
-    (least_rival trees index doc address tree stands own) links
+    shown_too setting trees address tree answers doc index (link_of index) refl (missing index) (least_other (Sees setting address tree) (sees_all setting address tree) trees index doc address tree stands own)
+    (least_rival (Sees setting address tree) (sees_all setting address tree) trees index doc address tree stands own) links
 
 -- no document is held, and no other has a tree
 pub all_alone : (setting : Setting) (address : List ℕ) (tree : Parts) (answers : List Answer) (doc : ℕ) (index : Indexed) → index ≡ empty →
@@ -189,8 +191,8 @@ pub all_alone : (setting : Setting) (address : List ℕ) (tree : Parts) (answers
 all_alone setting address tree answers doc index nothing_held links =
     shown_too setting (alone_at address tree) address tree answers doc index (link_at address) refl (missing_alone address) no_rival no_other links
   where
-    no_rival : (name : List ℕ) (type : ℕ) (uri : List ℕ) → IsLeastRival index doc name type uri → IsLeastOther (alone_at address tree) name type address uri
+    no_rival : (name : List ℕ) (type : ℕ) (uri : List ℕ) → IsLeastRival index doc name type uri → IsLeastOther (Sees setting address tree) (alone_at address tree) name type address uri
     no_rival name type uri is = absurd (no_least index doc name type uri nothing_held is)
 
-    no_other : (name : List ℕ) (type : ℕ) (uri : List ℕ) → IsLeastOther (alone_at address tree) name type address uri → IsLeastRival index doc name type uri
+    no_other : (name : List ℕ) (type : ℕ) (uri : List ℕ) → IsLeastOther (Sees setting address tree) (alone_at address tree) name type address uri → IsLeastRival index doc name type uri
     no_other name type uri is = absurd (none-some is.exports_it.tree (sym (alone_elsewhere address tree uri is.another) ∙ is.exports_it.is_tree))

@@ -62,15 +62,16 @@ pub one_rival : (index : Indexed) (doc : ℕ) (name : List ℕ) (type : ℕ) (ur
     IsLeastRival index doc name type other → uri ≡ other
 one_rival index doc name type uri other is was = one_least uri other (is.least other was.rival) (was.least uri is.rival)
 
-module _ (trees : Trees) (index : Indexed) (doc : ℕ) (address : List ℕ) (tree : Parts) (stands : IsIndexOf trees index)
+module _ (sees : List ℕ → Type 0) (seen : (uri : List ℕ) → sees uri) (trees : Trees) (index : Indexed) (doc : ℕ) (address : List ℕ) (tree : Parts) (stands : IsIndexOf trees index)
     (own : IsDocumentOf trees index doc address tree) (name : List ℕ) (type : ℕ) where
-  rival_exports : (uri : List ℕ) → IsRival index doc name type uri → (uri ≢ address) × DoesExport trees name type uri
+  rival_exports : (uri : List ℕ) → IsRival index doc name type uri → (uri ≢ address) × DoesExport sees trees name type uri
   rival_exports uri rival =
       let d = rival.document in
       let entry = entry_is (trees d.uri) d.exports (stands.entries rival.other d rival.exported.held) name type rival.node rival.exported.export in (
         λ same. rival.another
             (stands.apart rival.other doc d own.document rival.exported.held own.there (rival.uri_is ∙ same ∙ sym own.here)),
         record {
+          seen = seen uri;
           tree = entry.0;
           is_tree = ap trees (sym rival.uri_is) ∙ entry.1;
           node = rival.node;
@@ -79,7 +80,7 @@ module _ (trees : Trees) (index : Indexed) (doc : ℕ) (address : List ℕ) (tre
         },
       )
 
-  exporter_rivals : (uri : List ℕ) → uri ≢ address → DoesExport trees name type uri → IsRival index doc name type uri
+  exporter_rivals : (uri : List ℕ) → uri ≢ address → DoesExport sees trees name type uri → IsRival index doc name type uri
   exporter_rivals uri another does =
       let held = stands.held uri does.tree does.is_tree in
       let d : Document = held.1 in
@@ -97,7 +98,7 @@ module _ (trees : Trees) (index : Indexed) (doc : ℕ) (address : List ℕ) (tre
         uri_is = held.3;
       }
 
-  pub least_other : (uri : List ℕ) → IsLeastRival index doc name type uri → IsLeastOther trees name type address uri
+  pub least_other : (uri : List ℕ) → IsLeastRival index doc name type uri → IsLeastOther sees trees name type address uri
   least_other uri rival =
       let is = rival_exports uri rival.rival in
       record {
@@ -106,7 +107,7 @@ module _ (trees : Trees) (index : Indexed) (doc : ℕ) (address : List ℕ) (tre
         least = λ a other does. up_to (slice_cmp nat_cmp uri a) (rival.least a (exporter_rivals a other does));
       }
 
-  pub least_rival : (uri : List ℕ) → IsLeastOther trees name type address uri → IsLeastRival index doc name type uri
+  pub least_rival : (uri : List ℕ) → IsLeastOther sees trees name type address uri → IsLeastRival index doc name type uri
   least_rival uri other = record {
     rival = exporter_rivals uri other.another other.exports_it;
     least = λ a rival. let is = rival_exports a rival in not_above (slice_cmp nat_cmp uri a) (other.least a is.0 is.1);

@@ -2,6 +2,7 @@
 use Rattle.std.proofs.Common.{◌≡◌, ◌+◌, ◌≤◌, ℕ, codes, List, [], ◌∷◌, ◌++◌, Option, Some, None, Bool, true, false, not, cond, map, length, slice_get, refl, sym, ap, subst, ◌∙◌, arith}
 use Rattle.std.proofs.lemmas.List.{append-nil, append_assoc}
 use Rattle.std.proofs.lemmas.List.Elements.{All-head, All-tail, filter-append}
+use Rattle.lw_substitution.proofs.Linked.{looks_tell_sight}
 use Rattle.lw_base.specs.declared.numbers.PropId.{PropId}
 use Rattle.lw_base.specs.declared.token.Token.{Token}
 use Rattle.lw_builder.specs.Built.{ArePartsOf}
@@ -89,7 +90,7 @@ module _ (setting : Setting) (text : List ℕ) (m : List Mark) (seen tokens : Li
     pub target_there : (trees : Trees) (address : List ℕ) (r s : Reference) (name : List ℕ) → r ≡ s →
         HasTarget (rules_of setting) trees address tree (renamed_to name r) → HasTarget (rules_of setting) trees address other (renamed_to name s)
     target_there trees address r s name same leads =
-        (target_both (rules_of setting) trees address 0 tree other r s trees_are_alike (ap (λ (q : Reference). q.owner) same) (ap (λ (q : Reference). q.want) same) name).0 leads
+        (target_both (rules_of setting) (looks_tell_sight setting) trees address 0 tree other r s trees_are_alike (ap (λ (q : Reference). q.owner) same) (ap (λ (q : Reference). q.want) same) name).0 leads
 
   -- a tree that is opened by marks that leave a root is whole
   pub whole_opened : (tree : Parts) (x : Grown) → FollowsMarks setting.grammar text m seen (Root x ∷ []) → IsOpenedTree setting.grammar text m seen tokens tree → IsTree setting.grammar text m seen tokens tree

@@ -2,6 +2,9 @@
 use Rattle.std.proofs.Common.{◌≡◌, ◌+◌, ◌++◌, ℕ, List, Bool, true, false, Option, Some, None, Contains, if◌then◌else◌, length, refl, sym, subst}
 use Rattle.std.specs.Str.{bytes_eq}
 use Rattle.std.proofs.lemmas.Option.{same_Some}
+use Rattle.lw_link_rules.specs.Seeing.{Sees}
+use Rattle.lw_link_rules.proofs.Seeing.{tables_tell_sight}
+use Rattle.lw_scoping.proofs.Tables.{same_there}
 use Rattle.lw_grammar.specs.declared.grammar.Grammar.{Grammar}
 use Rattle.lw_link_rules.specs.Setting.{Setting}
 use Rattle.lw_places.specs.Targets.{HasTarget, having_tree}
@@ -13,8 +16,8 @@ use Rattle.lw_reading.proofs.OneReading.{one_reading}
 use Rattle.lw_link_rules.specs.Links.{IsNumberBelow, rules_of}
 use Rattle.lw_link_rules.proofs.SameTables.{link_over}
 use Rattle.lw_scoping.specs.Alike.{AreAlike, HaveSameTables, both, neither}
-use Rattle.lw_scoping.specs.Links.{FitsThere, Trees}
-use Rattle.lw_scoping.proofs.Tables.{same_exports, same_named, same_own, turned}
+use Rattle.lw_scoping.specs.Links.{Trees}
+use Rattle.lw_scoping.proofs.Tables.{same_own, turned}
 use Rattle.lw_tree.specs.declared.issue.Issue.{Issue}
 use Rattle.lw_tree.specs.declared.node.Reference.{Reference}
 use Rattle.lw_tree.specs.Parts.{Parts, SameTables}
@@ -39,27 +42,15 @@ having_alike trees address {tree} {other} same place = by (bytes_eq place addres
     by true = both same
     by false = alike_itself (trees place)
 
--- a document that has a tree has one with the same tables in the other
-alike_in : {a b : Option Parts} {tree : Parts} → AreAlike a b → a ≡ Some tree → (other : Parts) × (b ≡ Some other) × SameTables tree other
-alike_in {tree} (both {one = one} {other = other} same) is = (other, refl, subst (λ (x : Parts). SameTables x other) (same_Some one tree is) same)
-alike_in neither is = absurd (differ is)
-  where
-    differ : {tree : Parts} → None ≡ Some tree → ⊥
-    differ e = cc
-
-fits_over : {trees others : Trees} → HaveSameTables trees others → (below : ℕ → ℕ → Type 0) (r : Reference) (place : List ℕ × ℕ) → FitsThere below trees r place →
-    FitsThere below others r place
-fits_over all below r place (tree, is, has, (type, named, under)) =
-    let (other, there, same) = alike_in (all place.0) is in
-    (other, there, subst (λ (xs : List ℕ). Contains xs place.1) (same_exports same) has, (type, same_named same named, under))
-
 pub target_over : (setting : Setting) (trees : Trees) (address : List ℕ) (tree other : Parts) (r : Reference) → SameTables tree other →
     HasTarget (rules_of setting) trees address tree r → HasTarget (rules_of setting) trees address other r
 target_over setting trees address tree other r same (target, leads) = (
   target,
   link_over (rules_of setting) _ _ address tree other r (λ n own. same_own same (IsNumberBelow setting.grammar) r own)
-      (fits_over (having_alike trees address same) (IsNumberBelow setting.grammar) r)
-      (fits_over (having_alike trees address (turned same)) (IsNumberBelow setting.grammar) r) (Some target) leads,
+      (λ place. same_there (IsNumberBelow setting.grammar) (Sees setting address tree) (Sees setting address other)
+      (tables_tell_sight setting tree other same address) r place (having_alike trees address same))
+      (λ place. same_there (IsNumberBelow setting.grammar) (Sees setting address other) (Sees setting address tree)
+      (tables_tell_sight setting other tree (turned same) address) r place (having_alike trees address (turned same))) (Some target) leads,
 )
 
 -- the trees of one text have the same tables

@@ -1,5 +1,7 @@
 -- What is known where a word is being typed.
 use Rattle.std.specs.Prelude.{ℕ, ◌≡◌, List}
+use Rattle.lw_lang.specs.Language.{setting_of}
+use Rattle.lw_link_rules.specs.Setting.{Setting}
 use Rattle.lw_builder.specs.Built.{ArePartsOf}
 use Rattle.lw_grammar.specs.declared.grammar.Grammar.{Grammar}
 use Rattle.lw_grammar.specs.Kinds.{AreKinds, Kinds}
@@ -19,6 +21,10 @@ use Rattle.lw_complete.specs.declared.typing.Typing.{Typing}
 -- the grammar of the language
 abbrev pub grammar_of : Typing → Grammar
 grammar_of typing = typing.language.now.grammar
+
+-- by what its documents are read and linked
+abbrev pub typing_setting : Typing → Setting
+typing_setting typing = setting_of typing.language.now
 
 -- these are the kinds and the lexicon of the grammar, and the tokens are those of the text before the word
 pub record IsTypedBy (of : Kinds) (lexicon : Lexicon) (typing : Typing) : Type 0 where

@@ -3,6 +3,7 @@ use Rattle.std.proofs.Common.{◌≡◌, ◌<◌, ℕ, List, All, Bool, true, fa
 use Rattle.std.proofs.lemmas.Bool.{cases_order}
 use Rattle.std.proofs.lemmas.List.Elements.{All-get_or}
 use Rattle.std.proofs.lemmas.Option.{same_Some, none-some, slice_get_within, slice_get-get_or}
+use Rattle.lw_machine.proofs.Seeing.{sees_or_not}
 use Rattle.lw_base.specs.declared.numbers.NodeId.{NodeId}
 use Rattle.lw_base.specs.declared.token.Span.{Span}
 use Rattle.lw_grammar.specs.declared.grammar.Grammar.{Grammar}
@@ -138,7 +139,7 @@ module _ (setting : Setting) (tells : TellsTypes setting.grammar) (addresses : L
     pub some_link : (address : List ℕ) (tree : Parts) → trees address ≡ Some tree → (r : Reference) → Contains tree.refs r → (l : Link) × Leads address tree r l
     some_link address tree is r has =
         let of = text_of address tree is in
-        link addresses trees stand_among (rules_of setting) tells address tree (outwards setting.grammar of.text tree of.reads) r
+        link addresses trees stand_among (rules_of setting) tells (sees_or_not setting) address tree (outwards setting.grammar of.text tree of.reads) r
         (subst (λ (x : Reference). x.owner.0 < length tree.nodes) has.2
         (All-get_or (λ (x : Reference). x.owner.0 < length tree.nodes) tree.refs has.0 r has.1 (owners setting.grammar of.text tree of.reads)))
 
@@ -182,8 +183,8 @@ module _ (setting : Setting) (tells : TellsTypes setting.grammar) (addresses : L
         )
     name_of_target address tree r target l is (out {place = place} none fits least) to =
         subst HasName (same_Some place target to) (
-          record { address = place.0; span = fits.3.1.span },
-          record { tree = fits.0; is_tree = fits.1; text = r.name; named = fits.3.1.named; here = refl },
+          record { address = place.0; span = fits.4.1.span },
+          record { tree = fits.1; is_tree = fits.2; text = r.name; named = fits.4.1.named; here = refl },
         )
     name_of_target address tree r target l is (nowhere none misses) to = absurd (none-some target to)
 

@@ -67,20 +67,20 @@ module _ (trees : Trees) (address : List ℕ) (tree : Parts) where
   module _ (rules : Rules) (r : Reference) where
     -- ---- exports
 
-    pub here_fits : (n : ℕ) → Contains (exports tree) n → Fits rules.below tree r n → FitsThere rules.below Now r (address, n)
-    here_fits n exported fits = (tree, having_here, exported, fits)
+    pub here_fits : rules.sees address tree address → (n : ℕ) → Contains (exports tree) n → Fits rules.below tree r n → FitsThere rules.below (rules.sees address tree) Now r (address, n)
+    here_fits seen n exported fits = (seen, tree, having_here, exported, fits)
 
-    pub elsewhere_fits : (place : List ℕ × ℕ) → place.0 ≢ address → FitsThere rules.below trees r place → FitsThere rules.below Now r place
-    elsewhere_fits place apart (t, there, exported, fits) = (t, having_elsewhere place.0 apart ∙ there, exported, fits)
+    pub elsewhere_fits : (place : List ℕ × ℕ) → place.0 ≢ address → FitsThere rules.below (rules.sees address tree) trees r place → FitsThere rules.below (rules.sees address tree) Now r place
+    elsewhere_fits place apart (seen, t, there, exported, fits) = (seen, t, having_elsewhere place.0 apart ∙ there, exported, fits)
 
-    pub fits_somewhere : (place : List ℕ × ℕ) → FitsThere rules.below Now r place →
-        (Contains (exports tree) place.1 × Fits rules.below tree r place.1) ⊎ ((place.0 ≢ address) × FitsThere rules.below trees r place)
-    fits_somewhere place (t, there, exported, fits) = elim (here_or_elsewhere place.0 t there) [
+    pub fits_somewhere : (place : List ℕ × ℕ) → FitsThere rules.below (rules.sees address tree) Now r place →
+        (Contains (exports tree) place.1 × Fits rules.below tree r place.1) ⊎ ((place.0 ≢ address) × FitsThere rules.below (rules.sees address tree) trees r place)
+    fits_somewhere place (seen, t, there, exported, fits) = elim (here_or_elsewhere place.0 t there) [
       | inl (_, same) ↦ inl (
         subst (λ (x : Parts). Contains (exports x) place.1) (sym same) exported,
         subst (λ (x : Parts). Fits rules.below x r place.1) (sym same) fits,
       )
-      | inr (apart, is) ↦ inr (apart, (t, is, exported, fits))
+      | inr (apart, is) ↦ inr (apart, (seen, t, is, exported, fits))
     ]
 
     module _ (path : List ℕ) (leads : LeadsOut tree r.owner.0 path) where
@@ -88,7 +88,7 @@ module _ (trees : Trees) (address : List ℕ) (tree : Parts) where
 
       -- a symbol on the way fits, or an export
       abbrev pub SomeFits : Type 0
-      SomeFits = ((n : ℕ) × Contains (flat_map (locals tree) path) n × Fits rules.below tree r n) ⊎ ((place : List ℕ × ℕ) × FitsThere rules.below Now r place)
+      SomeFits = ((n : ℕ) × Contains (flat_map (locals tree) path) n × Fits rules.below tree r n) ⊎ ((place : List ℕ × ℕ) × FitsThere rules.below (rules.sees address tree) Now r place)
 
       pub target_of : (link : Link) → LinksTo rules Now address tree r link → SomeFits → HasTarget rules trees address tree r
       target_of link (own {n = n} is) _ = ((address, n), own is)

@@ -9,6 +9,7 @@ use Rattle.std.specs.declared.cmp.Ordering.{Ordering}
 use Rattle.std.specs.declared.cmp.Ordering.TheVariants.{Less, Equal, Greater}
 use Rattle.std.proofs.lemmas.Cmp.{ranked}
 use Rattle.std.proofs.lemmas.Option.{none-some, same_Some}
+use Rattle.lw_link_rules.specs.Seeing.{Sees, everywhere}
 use Rattle.lw_link_rules.specs.Setting.{Setting}
 use Rattle.lw_grammar.specs.Subtypes.{IsSubtype}
 use Rattle.lw_reading.specs.Numbers.{IsNumberOfType}
@@ -84,10 +85,11 @@ module _ (setting : Setting) (r : Reference) (high : List ℕ) (set : FinSet nat
 
   module _ (trees : Trees) (index : Indexed) (is_index : IsIndexOf trees index) where
     -- what the index holds of the name and with such a type fits
-    pub fits : (doc : ℕ) (d : Document) (node : ℕ) → IsWanted index r.name set doc d node → FitsThere (IsNumberBelow setting.grammar) trees r (d.uri, node)
-    fits doc d node is =
+    pub fits : (address : List ℕ) (tree : Parts) (doc : ℕ) (d : Document) (node : ℕ) → IsWanted index r.name set doc d node →
+        FitsThere (IsNumberBelow setting.grammar) (Sees setting address tree) trees r (d.uri, node)
+    fits address tree doc d node is =
         let there = held r.name is.type node (is_index.entries doc d is.exported.held) is.exported.export in
-        (there.tree, there.is_tree, there.exported, (is.type, there.named, below is.type is.wanted))
+        (everywhere, there.tree, there.is_tree, there.exported, (is.type, there.named, below is.type is.wanted))
 
     -- and it holds each that fits
     pub record IsHeld (place : List ℕ × ℕ) : Type 0 where
@@ -96,8 +98,8 @@ module _ (setting : Setting) (r : Reference) (high : List ℕ) (set : FinSet nat
       pub at : document.uri ≡ place.0
       pub wanted : IsWanted index r.name set doc document place.1
 
-    pub fits_held : (place : List ℕ × ℕ) → FitsThere (IsNumberBelow setting.grammar) trees r place → IsHeld place
-    fits_held place (tree, is_tree, exported, (type, named, under)) =
+    pub fits_held : (sees : List ℕ → Type 0) (place : List ℕ × ℕ) → FitsThere (IsNumberBelow setting.grammar) sees trees r place → IsHeld place
+    fits_held sees place (seen, tree, is_tree, exported, (type, named, under)) =
         let (doc, d, there, at) = is_index.held place.0 tree is_tree in
         let here : IsExportOf (trees d.uri) r.name type place.1 =
         record { tree = tree; is_tree = ap trees at ∙ is_tree; exported = exported; named = named } in
@@ -124,14 +126,14 @@ module _ (setting : Setting) (r : Reference) (high : List ℕ) (set : FinSet nat
       found_out target is first =
           subst (λ (a : List ℕ). LinksTo (rules_of setting) trees address tree r (Some (a, target.node.0)))
           (sym (address_is index target.doc.0 first.document first.wanted.exported.held))
-          (out (own_below tree None is) (fits target.doc.0 first.document target.node.0 first.wanted) least)
+          (out (own_below tree None is) (fits address tree target.doc.0 first.document target.node.0 first.wanted) least)
         where
-          least : (other : List ℕ × ℕ) → FitsThere (IsNumberBelow setting.grammar) trees r other → StandsNoLater (first.document.uri, target.node.0) other
+          least : (other : List ℕ × ℕ) → FitsThere (IsNumberBelow setting.grammar) (Sees setting address tree) trees r other → StandsNoLater (first.document.uri, target.node.0) other
           least other there =
-              let h = fits_held other there in
+              let h = fits_held (Sees setting address tree) other there in
               subst (λ (a : List ℕ). StandsNoLater (first.document.uri, target.node.0) (a, other.1)) h.at
               (stands (first.document.uri, target.node.0) (h.document.uri, other.1) (first.first h.doc h.document other.1 h.wanted))
 
       pub found_nowhere : IsOwn (λ type _. contains set type ≡ true) tree r None → NoneWanted index r.name set → LinksTo (rules_of setting) trees address tree r (link_of index Missing)
       found_nowhere is none =
-          nowhere (own_below tree None is) (λ place there. let h = fits_held place there in none h.doc h.document place.1 h.wanted)
+          nowhere (own_below tree None is) (λ place there. let h = fits_held (Sees setting address tree) place there in none h.doc h.document place.1 h.wanted)

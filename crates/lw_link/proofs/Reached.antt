@@ -9,6 +9,9 @@ use Rattle.std.specs.Ordering.{eq_by_cmp, nat_cmp}
 use Rattle.std.specs.declared.cmp.Ordering.TheVariants.{Less}
 use Rattle.std.specs.Prelude.{IsTrue}
 use Rattle.std.proofs.lemmas.Option.{none-some, same_Some}
+use Rattle.lw_link_rules.specs.Seeing.{Sees}
+use Rattle.lw_link_rules.proofs.Seeing.{sees_all}
+use Rattle.lw_machine.proofs.Seeing.{sees_or_not}
 use Rattle.lw_base.specs.declared.numbers.NodeId.{NodeId}
 use Rattle.lw_faults.specs.Finding.{Finds, OfSome}
 use Rattle.lw_faults.proofs.Joining.{Finds-then}
@@ -64,7 +67,7 @@ module _ (trees : Trees) (index : Indexed) (is_index : IsIndexOf trees index) (a
   -- it leads somewhere or nowhere
   some_link : (setting : Setting) → TellsTypes setting.grammar → ContainersComeFirst tree → (r : Reference) → r.owner.0 < length tree.nodes →
       (l : Link) × LinksTo (rules_of setting) (Now trees address tree) address tree r l
-  some_link setting decide first r inside = link addresses (Now trees address tree) all_addresses (rules_of setting) decide address tree first r inside
+  some_link setting decide first r inside = link addresses (Now trees address tree) all_addresses (rules_of setting) decide (sees_or_not setting) address tree first r inside
 
 -- ---- what leads somewhere
 
@@ -86,12 +89,12 @@ module _ (setting : Setting) (r : Reference) (high : List ℕ) (set : FinSet nat
       inr (
         place,
         elsewhere_fits trees address tree (rules_of setting) r place (λ same. is.another ((at is.doc is.document held).0 same))
-            (fits setting r high set is_type are trees index is_index is.doc is.document is.node is.wanted),
+            (fits setting r high set is_type are trees index is_index address tree is.doc is.document is.node is.wanted),
       )
   reached_fits (inr (inl (type, named, has))) =
       inr (
         (address, 0),
-        here_fits trees address tree (rules_of setting) r 0
+        here_fits trees address tree (rules_of setting) r (sees_all setting address tree address) 0
             (kept (is_named_node tree) (0 ∷ child_numbers tree 0) 0 (0, omega arith, refl) (ap is_some named.named))
             (type, named, below setting r high set is_type are type has),
       )
@@ -102,7 +105,7 @@ module _ (setting : Setting) (r : Reference) (high : List ℕ) (set : FinSet nat
   fits_reached (inr (place, fit)) = elim (fits_somewhere trees address tree (rules_of setting) r place fit) [
     | inl (exported, (type, named, under)) ↦ here place.1 exported (type, named, inside setting r high set is_type are type under)
     | inr (apart, there) ↦
-        let h = fits_held setting r high set is_type are trees index is_index place there in
+        let h = fits_held setting r high set is_type are trees index is_index (Sees setting address tree) place there in
         inl (record {
           doc = h.doc;
           document = h.document;

@@ -8,6 +8,7 @@ use Rattle.std.specs.Prelude.{if◌then◌else◌}
 use Rattle.std.specs.Str.{bytes_eq}
 use Rattle.std.proofs.lemmas.Option.{same_Some}
 use Rattle.std.proofs.lemmas.Slice.Eq.{bytes_eq-Decides}
+use Rattle.lw_link_rules.specs.Seeing.{Sees, everywhere}
 use Rattle.lw_link_rules.specs.Setting.{Setting}
 use Rattle.lw_index.specs.declared.parts.Answer.{Answer}
 use Rattle.lw_index.specs.declared.parts.Answer.TheVariants.{Found, Missing}
@@ -76,14 +77,15 @@ module _ (setting : Setting) (r : Reference) (high : List ℕ) (set : FinSet nat
     pub root_alone : InSet 0 → Leads (Some (address, 0))
     root_alone (type, named, has) =
         out (own_below setting r high set is_type are tree None none_own) (
+          everywhere,
           tree,
           alone_here address tree,
           kept (is_named_node tree) (0 ∷ child_numbers tree 0) 0 (0, omega arith, refl) (ap is_some named.named),
           (type, named, below setting r high set is_type are type has),
         ) first
       where
-        first : (place : List ℕ × ℕ) → FitsThere (IsNumberBelow setting.grammar) (alone_at address tree) r place → StandsNoLater (address, 0) place
-        first place (t, there, _, _) = by_node (sym (only_here address tree place.0 t there).0) (omega arith)
+        first : (place : List ℕ × ℕ) → FitsThere (IsNumberBelow setting.grammar) (Sees setting address tree) (alone_at address tree) r place → StandsNoLater (address, 0) place
+        first place (_, t, there, _, _) = by_node (sym (only_here address tree place.0 t there).0) (omega arith)
 
     pub nowhere_alone : HasOneRoot tree → ¬ InSet 0 → Leads None
     nowhere_alone root not_root = nowhere (own_below setting r high set is_type are tree None none_own) nothing
@@ -98,8 +100,8 @@ module _ (setting : Setting) (r : Reference) (high : List ℕ) (set : FinSet nat
         not_exported zero exported is = not_root is
         not_exported (suc k) exported is = not_on_the_way (suc k) (on_the_way tree root r.owner.0 (suc k) none_own.path none_own.leads exported (λ same. omega (arith, same))) is
 
-        nothing : (place : List ℕ × ℕ) → ¬ FitsThere (IsNumberBelow setting.grammar) (alone_at address tree) r place
-        nothing place (t, there, exported, (type, named, under)) =
+        nothing : (place : List ℕ × ℕ) → ¬ FitsThere (IsNumberBelow setting.grammar) (Sees setting address tree) (alone_at address tree) r place
+        nothing place (_, t, there, exported, (type, named, under)) =
             let same = (only_here address tree place.0 t there).1 in
             let here : Fits (IsNumberBelow setting.grammar) tree r place.1 = subst (λ (x : Parts). Fits (IsNumberBelow setting.grammar) x r place.1) (sym same) (type, named, under) in
             not_exported place.1 (subst (λ (x : Parts). Contains (exports x) place.1) (sym same) exported)

@@ -83,14 +83,15 @@ one_least a b p q = by (order a b) refl
     by Equal is = tied a b is
     by Greater is = absurd (p is)
 
-module _ (addresses : List (List ℕ)) (trees : Trees) (all : StandAmong addresses trees) (name : List ℕ) (type : ℕ) where
-  does_export : (a : List ℕ) → Decided (DoesExport trees name type a)
-  does_export a = by (trees a) refl
+module _ (addresses : List (List ℕ)) (trees : Trees) (all : StandAmong addresses trees) (sees : List ℕ → Type 0)
+    (sight : (a : List ℕ) → Decided (sees a)) (name : List ℕ) (type : ℕ) where
+  does_export : (a : List ℕ) → Decided (DoesExport sees trees name type a)
+  does_export a = by (sight a) (trees a) refl
     where
-      check : (tree : Parts) → trees a ≡ Some tree → Decided ((n : ℕ) × Contains (exports tree) n × IsNamedNode tree n name type) →
-          Decided (DoesExport trees name type a)
-      check tree given (inl (n, has, is)) = inl (record { tree = tree; is_tree = given; node = n; exported = has; same = is })
-      check tree given (inr not) =
+      check : sees a → (tree : Parts) → trees a ≡ Some tree → Decided ((n : ℕ) × Contains (exports tree) n × IsNamedNode tree n name type) →
+          Decided (DoesExport sees trees name type a)
+      check seen tree given (inl (n, has, is)) = inl (record { seen = seen; tree = tree; is_tree = given; node = n; exported = has; same = is })
+      check seen tree given (inr not) =
           inr (λ is. let one : is.tree ≡ tree = same_Some is.tree tree (sym is.is_tree ∙ given) in
           not (
             is.node,
@@ -98,27 +99,28 @@ module _ (addresses : List (List ℕ)) (trees : Trees) (all : StandAmong address
             subst (λ (t : Parts). IsNamedNode t is.node name type) one is.same,
           ))
 
-      by : (o : Option Parts) → trees a ≡ o → Decided (DoesExport trees name type a)
-      by None absent = inr (λ is. none-some is.tree (sym absent ∙ is.is_tree))
-      by (Some tree) given = check tree given (some (λ n. IsNamedNode tree n name type) (λ n. named_so tree n name type) (exports tree))
+      by : Decided (sees a) → (o : Option Parts) → trees a ≡ o → Decided (DoesExport sees trees name type a)
+      by (inr not) o given = inr (λ is. not is.seen)
+      by (inl seen) None absent = inr (λ is. none-some is.tree (sym absent ∙ is.is_tree))
+      by (inl seen) (Some tree) given = check seen tree given (some (λ n. IsNamedNode tree n name type) (λ n. named_so tree n name type) (exports tree))
 
   module _ (address : List ℕ) where
     abbrev IsOther : List ℕ → Type 0
-    IsOther a = (a ≢ address) × DoesExport trees name type a
+    IsOther a = (a ≢ address) × DoesExport sees trees name type a
 
     other : (a : List ℕ) → Decided (IsOther a)
     other a = by (same_text a address) (does_export a)
       where
-        by : Decided (a ≡ address) → Decided (DoesExport trees name type a) → Decided (IsOther a)
+        by : Decided (a ≡ address) → Decided (DoesExport sees trees name type a) → Decided (IsOther a)
         by (inl is) does = inr (λ was. was.0 is)
         by (inr apart) (inl does) = inl (apart, does)
         by (inr apart) (inr not) = inr (λ was. not was.1)
 
-    pub least_other : ((a : List ℕ) × IsLeastOther trees name type address a) ⊎ ((a : List ℕ) → ¬ IsLeastOther trees name type address a)
+    pub least_other : ((a : List ℕ) × IsLeastOther sees trees name type address a) ⊎ ((a : List ℕ) → ¬ IsLeastOther sees trees name type address a)
     least_other = by (least IsOther NoLater no_later_itself no_later_further one_no_later other addresses)
       where
         by : Least IsOther NoLater addresses →
-            ((a : List ℕ) × IsLeastOther trees name type address a) ⊎ ((a : List ℕ) → ¬ IsLeastOther trees name type address a)
+            ((a : List ℕ) × IsLeastOther sees trees name type address a) ⊎ ((a : List ℕ) → ¬ IsLeastOther sees trees name type address a)
         by (inl (a, (apart, does), first)) =
             inl (
               a,
@@ -130,5 +132,5 @@ module _ (addresses : List (List ℕ)) (trees : Trees) (all : StandAmong address
             )
         by (inr misses) = inr (λ a is. misses a (all a is.exports_it.tree is.exports_it.is_tree) (is.another, is.exports_it))
 
-    pub one_least_other : (a b : List ℕ) → IsLeastOther trees name type address a → IsLeastOther trees name type address b → a ≡ b
+    pub one_least_other : (a b : List ℕ) → IsLeastOther sees trees name type address a → IsLeastOther sees trees name type address b → a ≡ b
     one_least_other a b is was = one_least a b (is.least b was.another was.exports_it) (was.least a is.another is.exports_it)

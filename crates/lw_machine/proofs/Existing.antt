@@ -20,6 +20,7 @@ use Rattle.lw_link_rules.specs.Diagnostics as told
 use Rattle.lw_link_rules.specs.Diagnostics.{AreDiagnostics}
 use Rattle.lw_link_rules.specs.Links as of_text
 use Rattle.lw_link_rules.specs.Links.{Texts, IsTreeOfText, AreTreesOfTexts, AreLinks, rules_of}
+use Rattle.lw_machine.proofs.Seeing.{sees_or_not}
 use Rattle.lw_machine.specs.Linked.{HasLinksAndList}
 use Rattle.lw_machine.specs.Readable.{AreReadable, IsReadable}
 use Rattle.lw_machine.specs.Telling.{TellsTypes}
@@ -87,7 +88,7 @@ module _ (setting : Setting) where
         (links : List Link) × AllZip (LinksTo (rules_of setting) trees address tree) refs links
     each_link address tree first [] inside = ([], tt)
     each_link address tree first (r ∷ refs) inside =
-        let one = link addresses trees stand_among (rules_of setting) decide address tree first r (inside r (here r refs)) in
+        let one = link addresses trees stand_among (rules_of setting) decide (sees_or_not setting) address tree first r (inside r (here r refs)) in
         let others = each_link address tree first refs (λ other has. inside other (there r refs other has)) in
         (one.0 ∷ others.0, (one.1, others.1))
 

@@ -13,6 +13,7 @@ pub mod HasEnd
 pub mod OneEnd
 pub mod SameEnds
 pub mod Finite
+pub mod Seeing
 pub mod Comparing
 pub mod Positions
 pub mod Nodes

@@ -75,7 +75,8 @@ module _ (addresses : List (List ℕ)) (trees : Trees) (all : StandAmong address
       (λ address has. exports_there address))
 
   -- ---- links
-  module _ (rules : Rules) (decide : (a b : ℕ) → Decided (rules.below a b)) where
+  module _ (rules : Rules) (decide : (a b : ℕ) → Decided (rules.below a b))
+      (sight : (address : List ℕ) (tree : Parts) (other : List ℕ) → Decided (rules.sees address tree other)) where
     fits : (tree : Parts) (r : Reference) (n : ℕ) → Decided (Fits rules.below tree r n)
     fits tree r n = by (called tree n)
       where
@@ -90,20 +91,22 @@ module _ (addresses : List (List ℕ)) (trees : Trees) (all : StandAmong address
         by (inl c) = check c (same_text c.name r.name) (decide c.node.type_id.0 r.want.0)
         by (inr never) = inr (λ is. never r.name is.0 is.1)
 
-    fits_there : (r : Reference) (place : List ℕ × ℕ) → Decided (FitsThere rules.below trees r place)
-    fits_there r place = by (trees place.0) refl
+    fits_there : (sees : List ℕ → Type 0) → ((other : List ℕ) → Decided (sees other)) → (r : Reference) (place : List ℕ × ℕ) →
+        Decided (FitsThere rules.below sees trees r place)
+    fits_there sees seen_or_not r place = by (trees place.0) refl
       where
-        check : (tree : Parts) → trees place.0 ≡ Some tree → Decided (Contains (exports tree) place.1) →
-            Decided (Fits rules.below tree r place.1) → Decided (FitsThere rules.below trees r place)
-        check tree given (inl has) (inl does) = inl (tree, given, has, does)
-        check tree given (inl has) (inr not) =
-            inr (λ is. not (subst (λ (t : Parts). Fits rules.below t r place.1) (same_Some is.0 tree (sym is.1 ∙ given)) is.3))
-        check tree given (inr not) does =
-            inr (λ is. not (subst (λ (t : Parts). Contains (exports t) place.1) (same_Some is.0 tree (sym is.1 ∙ given)) is.2))
+        check : (tree : Parts) → trees place.0 ≡ Some tree → Decided (sees place.0) → Decided (Contains (exports tree) place.1) →
+            Decided (Fits rules.below tree r place.1) → Decided (FitsThere rules.below sees trees r place)
+        check tree given (inl seen) (inl has) (inl does) = inl (seen, tree, given, has, does)
+        check tree given (inl seen) (inl has) (inr not) =
+            inr (λ is. not (subst (λ (t : Parts). Fits rules.below t r place.1) (same_Some is.1 tree (sym is.2 ∙ given)) is.4))
+        check tree given (inl seen) (inr not) does =
+            inr (λ is. not (subst (λ (t : Parts). Contains (exports t) place.1) (same_Some is.1 tree (sym is.2 ∙ given)) is.3))
+        check tree given (inr not) has does = inr (λ is. not is.0)
 
-        by : (o : Option Parts) → trees place.0 ≡ o → Decided (FitsThere rules.below trees r place)
-        by None absent = inr (λ is. none-some is.0 (sym absent ∙ is.1))
-        by (Some tree) given = check tree given (among (exports tree) place.1) (fits tree r place.1)
+        by : (o : Option Parts) → trees place.0 ≡ o → Decided (FitsThere rules.below sees trees r place)
+        by None absent = inr (λ is. none-some is.1 (sym absent ∙ is.2))
+        by (Some tree) given = check tree given (seen_or_not place.0) (among (exports tree) place.1) (fits tree r place.1)
 
     module _ (address : List ℕ) (tree : Parts) (first : ContainersComeFirst tree) (r : Reference)
         (inside : r.owner.0 < length tree.nodes) where
@@ -116,17 +119,18 @@ module _ (addresses : List (List ℕ)) (trees : Trees) (all : StandAmong address
               let is = first_in (Fits rules.below tree r) (fits tree r) (flat_map (locals tree) path.0) in
               (is.0, record { path = path.0; leads = path.1; first = is.1 })
 
-          outside : IsOwn rules.below tree r None → Least (FitsThere rules.below trees r) StandsNoLater all_exports.0 →
+          outside : IsOwn rules.below tree r None → Least (FitsThere rules.below (rules.sees address tree) trees r) StandsNoLater all_exports.0 →
               (l : Link) × LinksTo rules trees address tree r l
           outside none (inl (place, does, least_one)) =
-              (Some place, out none does (λ other is. least_one other ((all_exports.1 other).1 (is.0, is.1, is.2)) is))
-          outside none (inr misses) = (None, nowhere none (λ other is. misses other ((all_exports.1 other).1 (is.0, is.1, is.2)) is))
+              (Some place, out none does (λ other is. least_one other ((all_exports.1 other).1 (is.1, is.2, is.3)) is))
+          outside none (inr misses) = (None, nowhere none (λ other is. misses other ((all_exports.1 other).1 (is.1, is.2, is.3)) is))
 
           by : ((o : Option ℕ) × IsOwn rules.below tree r o) → (l : Link) × LinksTo rules trees address tree r l
           by (Some n, is) = (Some (address, n), own is)
           by (None, is) =
               outside is
-              (least (FitsThere rules.below trees r) StandsNoLater no_later_itself no_later_further one_no_later (fits_there r) all_exports.0)
+              (least (FitsThere rules.below (rules.sees address tree) trees r) StandsNoLater no_later_itself no_later_further one_no_later
+              (fits_there (rules.sees address tree) (sight address tree) r) all_exports.0)
 
       -- it leads nowhere, or it does not
       pub leads_nowhere : Decided (LinksTo rules trees address tree r None)

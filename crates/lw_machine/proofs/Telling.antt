@@ -21,6 +21,8 @@ use Rattle.lw_scoping.specs.Outward.{ContainersComeFirst}
 use Rattle.lw_scoping.specs.Symbols.{IsNamedNode, exports}
 use Rattle.lw_link_rules.specs.Links.{IsNumberBelow, rules_of}
 use Rattle.lw_link_rules.specs.TreeDiagnostics.{Diagnostic, DiagnosticPrecedes, by_start, by_code, by_end, by_message, IsDiagnosticOf, unresolved, duplicate, also_exported, number, AreDiagnosticsOf, unresolved_at, duplicate_at, also_exported_at, out_of_range}
+use Rattle.lw_link_rules.specs.Seeing.{Sees}
+use Rattle.lw_machine.proofs.Seeing.{sees_or_not}
 use Rattle.lw_machine.proofs.Finite.{Decided, Listed, here, there, nothing, here_or_there, below, is_below, as_listed, each_listed, either_listed, none_listed, one_listed}
 use Rattle.lw_machine.proofs.Comparing.{Compared, compared, before, same, after, further}
 use Rattle.lw_machine.proofs.Nodes.{IsCalled, called, one_name, one_span, one_type, so_named}
@@ -140,7 +142,7 @@ module _ (setting : Setting) (decide : (a b : ℕ) → Decided (IsNumberBelow se
   abbrev OfExport : ℕ → Diagnostic → Type 0
   OfExport n e =
       (name : List ℕ) × (t : ℕ) × (type : List ℕ) × (other : List ℕ) ×
-      (named : IsNamedNode tree n name t) × IsLeastOther trees name t address other ×
+      (named : IsNamedNode tree n name t) × IsLeastOther (Sees setting address tree) trees name t address other ×
       IsNumberOfType setting.grammar type t × (e ≡ also_exported_at named.span type name other)
 
   abbrev OfValue : NodeId × PropId × Value → Diagnostic → Type 0
@@ -156,7 +158,7 @@ module _ (setting : Setting) (decide : (a b : ℕ) → Decided (IsNumberBelow se
 
   of_reference : (r : Reference) → Contains tree.refs r → Listed (OfReference r)
   of_reference r has =
-      by (leads_nowhere addresses trees all (rules_of setting) decide address tree first r inside) (slice_get (type_names setting.grammar) r.want.0) refl
+      by (leads_nowhere addresses trees all (rules_of setting) decide (sees_or_not setting) address tree first r inside) (slice_get (type_names setting.grammar) r.want.0) refl
     where
       inside : r.owner.0 < length tree.nodes
       inside =
@@ -202,21 +204,21 @@ module _ (setting : Setting) (decide : (a b : ℕ) → Decided (IsNumberBelow se
 
   -- another document exports it too, or none does
   abbrev HasOther : List ℕ → ℕ → Type 0
-  HasOther name t = ((a : List ℕ) × IsLeastOther trees name t address a) ⊎ ((a : List ℕ) → ¬ IsLeastOther trees name t address a)
+  HasOther name t = ((a : List ℕ) × IsLeastOther (Sees setting address tree) trees name t address a) ⊎ ((a : List ℕ) → ¬ IsLeastOther (Sees setting address tree) trees name t address a)
 
   of_export : (n : ℕ) → Listed (OfExport n)
   of_export n = by (called tree n)
     where
-      rival : (c : IsCalled tree n) (e : Diagnostic) (is : OfExport n e) → IsLeastOther trees c.name c.node.type_id.0 address is.3
+      rival : (c : IsCalled tree n) (e : Diagnostic) (is : OfExport n e) → IsLeastOther (Sees setting address tree) trees c.name c.node.type_id.0 address is.3
       rival c e (name, t, type, other, named, least, numbered, is) =
-          subst₂ (λ x y. IsLeastOther trees x y address other) (sym (one_name tree n c name t named))
+          subst₂ (λ x y. IsLeastOther (Sees setting address tree) trees x y address other) (sym (one_name tree n c name t named))
           (sym (one_type tree n c name t named)) least
 
-      only : (c : IsCalled tree n) (a type : List ℕ) → IsLeastOther trees c.name c.node.type_id.0 address a →
+      only : (c : IsCalled tree n) (a type : List ℕ) → IsLeastOther (Sees setting address tree) trees c.name c.node.type_id.0 address a →
           IsNumberOfType setting.grammar type c.node.type_id.0 → (e : Diagnostic) → OfExport n e → also_exported_at c.span type c.name a ≡ e
       only c a type least numbered e is =
           let one = one_type_name c.node.type_id.0 type is.2 numbered (typed_here n c is.0 is.1 is.2 is.4 is.6) in
-          let other = one_least_other addresses trees all c.name c.node.type_id.0 address a is.3 least (rival c e is) in
+          let other = one_least_other addresses trees all (Sees setting address tree) (sees_or_not setting address tree) c.name c.node.type_id.0 address a is.3 least (rival c e is) in
           (λ i. also_exported_at (one_span tree n c is.0 is.1 is.4 i) (one i) (one_name tree n c is.0 is.1 is.4 i) (other i)) ∙ sym is.7
 
       untyped : (c : IsCalled tree n) → slice_get (type_names setting.grammar) c.node.type_id.0 ≡ None → (e : Diagnostic) → ¬ OfExport n e
@@ -232,7 +234,7 @@ module _ (setting : Setting) (decide : (a b : ℕ) → Decided (IsNumberBelow se
 
       by : IsCalled tree n ⊎ ((name : List ℕ) (type : ℕ) → ¬ IsNamedNode tree n name type) → Listed (OfExport n)
       by (inl c) =
-          check c (least_other addresses trees all c.name c.node.type_id.0 address) (slice_get (type_names setting.grammar) c.node.type_id.0) refl
+          check c (least_other addresses trees all (Sees setting address tree) (sees_or_not setting address tree) c.name c.node.type_id.0 address) (slice_get (type_names setting.grammar) c.node.type_id.0) refl
       by (inr never) = none_listed (OfExport n) (λ e is. never is.0 is.1 is.4)
 
   of_value : (x : NodeId × PropId × Value) → Listed (OfValue x)

@@ -6,6 +6,7 @@ use Rattle.std.specs.Str.{bytes_eq}
 use Rattle.std.specs.declared.cmp.Ordering.TheVariants.{Less, Greater}
 use Rattle.std.proofs.lemmas.Cmp.{nat_list_cmp_total}
 use Rattle.std.proofs.lemmas.Option.{same_Some}
+use Rattle.lw_link_rules.specs.Seeing.{Sees}
 use Rattle.lw_base.specs.declared.token.Token.{Token}
 use Rattle.lw_base.proofs.Sorted.{same_list}
 use Rattle.lw_link_rules.specs.Setting.{Setting}
@@ -16,8 +17,8 @@ use Rattle.lw_link_rules.specs.Links.{IsNumberBelow, Texts, rules_of}
 use Rattle.lw_link_rules.proofs.SameTables.{link_over}
 use Rattle.lw_link_rules.proofs.SameTexts.{same_tables}
 use Rattle.lw_scoping.specs.Alike.{AreAlike, HaveSameTables, both, neither}
-use Rattle.lw_scoping.specs.Links.{FitsThere, Trees}
-use Rattle.lw_scoping.proofs.Tables.{same_exports, same_named, turned}
+use Rattle.lw_scoping.specs.Links.{Trees}
+use Rattle.lw_scoping.proofs.Tables.{same_there, turned}
 use Rattle.lw_tokens.specs.Lexicon.{IsLexicon, Lexicon}
 use Rattle.lw_tokens.proofs.OnePattern.{one_lexicon}
 use Rattle.lw_tree.specs.declared.node.Reference.{Reference}
@@ -60,31 +61,18 @@ having_alike {trees} {others} address tree all other = by (bytes_eq other addres
     by true same = subst (λ b. AreAlike (if b then Some tree else trees other) (if b then Some tree else others other)) (sym same) (both itself)
     by false same = subst (λ b. AreAlike (if b then Some tree else trees other) (if b then Some tree else others other)) (sym same) (all other)
 
--- a document that has a tree has one with the same tables in the other
-alike_in : {a b : Option Parts} {tree : Parts} → AreAlike a b → a ≡ Some tree → (other : Parts) × (b ≡ Some other) × SameTables tree other
-alike_in {tree} (both {one = one} {other = other} same) is = (other, refl, subst (λ (x : Parts). SameTables x other) (same_Some one tree is) same)
-alike_in neither is = absurd (differ is)
-  where
-    differ : {tree : Parts} → None ≡ Some tree → ⊥
-    differ e = cc
-
 alike_back : {a b : Option Parts} → AreAlike a b → AreAlike b a
 alike_back (both same) = both (turned same)
 alike_back neither = neither
 
-fits_over : {trees others : Trees} → HaveSameTables trees others → (below : ℕ → ℕ → Type 0) (r : Reference) (place : List ℕ × ℕ) → FitsThere below trees r place →
-    FitsThere below others r place
-fits_over all below r place (tree, is, has, (type, named, under)) =
-    let (other, there, same) = alike_in (all place.0) is in
-    (other, there, subst (λ (xs : List ℕ). Contains xs place.1) (same_exports same) has, (type, same_named same named, under))
-
 target_too : (setting : Setting) {trees others : Trees} (address : List ℕ) (tree : Parts) (r : Reference) → HaveSameTables trees others →
     HasTarget (rules_of setting) trees address tree r → HasTarget (rules_of setting) others address tree r
 target_too setting address tree r all (target, leads) =
-    let alike = having_alike address tree all in (
+    let alike = having_alike address tree all in
+    let sees : List ℕ → Type 0 = Sees setting address tree in (
       target,
-      link_over (rules_of setting) _ _ address tree tree r (λ n own. own) (fits_over alike (IsNumberBelow setting.grammar) r)
-          (fits_over (λ a. alike_back (alike a)) (IsNumberBelow setting.grammar) r) (Some target) leads,
+      link_over (rules_of setting) _ _ address tree tree r (λ n own. own) (λ place. same_there (IsNumberBelow setting.grammar) sees sees (λ a seen. seen) r place alike)
+          (λ place. same_there (IsNumberBelow setting.grammar) sees sees (λ a seen. seen) r place (λ a. alike_back (alike a))) (Some target) leads,
     )
 
 module _ (setting : Setting) (of : Kinds) (lexicon : Lexicon) {trees others : Trees} (address front rest : List ℕ) (tokens : List Token) (all : HaveSameTables trees others) where

@@ -1,5 +1,6 @@
 -- By a grammar by which a text is read in one way, what is asked for at an offset has one answer at most.
 use Rattle.std.proofs.Common.{◌≡◌, ℕ, List, Bool, Option}
+use Rattle.lw_link_rules.proofs.Seeing.{tables_tell_sight}
 use Rattle.lw_link_rules.specs.Setting.{Setting}
 use Rattle.lw_reading.specs.Laws.{IsReadOneWay}
 use Rattle.lw_link_rules.specs.Links.{Texts, rules_of}
@@ -14,7 +15,7 @@ module _ (setting : Setting) (one_way : IsReadOneWay setting.grammar) (texts : T
   one_place_of_definition m other is was =
       let all = same_tables setting.grammar one_way texts is.trees was.trees is.are_trees was.are_trees in
       let back = same_tables setting.grammar one_way texts was.trees is.trees was.are_trees is.are_trees in
-      one_definition (rules_of setting) was.trees address offset m other (definition_too (rules_of setting) all back address offset m is.is_there) was.is_there
+      one_definition (rules_of setting) was.trees address offset m other (definition_too (rules_of setting) (tables_tell_sight setting) all back address offset m is.is_there) was.is_there
 
   pub one_list_of_references : (declaration : Bool) (mentions others : Option (List Mention)) → AreReferences setting texts address offset declaration mentions →
       AreReferences setting texts address offset declaration others → mentions ≡ others
@@ -22,4 +23,4 @@ module _ (setting : Setting) (one_way : IsReadOneWay setting.grammar) (texts : T
       let all = same_tables setting.grammar one_way texts are.trees were.trees are.are_trees were.are_trees in
       let back = same_tables setting.grammar one_way texts were.trees are.trees were.are_trees are.are_trees in
       one_references (rules_of setting) were.trees address offset declaration mentions others
-      (references_too (rules_of setting) all back address offset declaration mentions are.are_there) were.are_there
+      (references_too (rules_of setting) (tables_tell_sight setting) all back address offset declaration mentions are.are_there) were.are_there

@@ -1,12 +1,14 @@
 -- What is meant at a place, where its name stands and where it is mentioned goes over to trees with the same tables.
 use Rattle.std.proofs.Common.{◌≡◌, ◌<◌, ℕ, List, Bool, Option, Some, None, Contains, length, slice_get, refl, sym, ap, ◌∙◌, subst}
 use Rattle.std.proofs.lemmas.Option.{same_Some}
+use Rattle.lw_scoping.specs.Alike.{TablesTellSight}
+use Rattle.lw_scoping.proofs.Tables.{same_there, turned}
 use Rattle.lw_base.specs.declared.token.Span.{Span}
 use Rattle.lw_tree.specs.declared.node.Node.{Node}
 use Rattle.lw_tree.specs.declared.node.Reference.{Reference}
 use Rattle.lw_tree.specs.Parts.{Parts, SameTables}
 use Rattle.lw_scoping.specs.Alike.{AreAlike, both, neither, HaveSameTables}
-use Rattle.lw_scoping.specs.Links.{FitsThere, Link, LinksTo, Trees}
+use Rattle.lw_scoping.specs.Links.{Link, LinksTo, Trees}
 use Rattle.lw_scoping.proofs.Tables.{same_exports, same_named, same_names, same_own, turned}
 use Rattle.lw_link_rules.proofs.SameTables.{link_over}
 use Rattle.lw_places.specs.Mentions.{
@@ -74,18 +76,14 @@ absent_too (both same) is = absurd (differ is)
     differ e = cc
 absent_too neither is = refl
 
-module _ (rules : Rules) where
-  fits_too : {trees others : Trees} → HaveSameTables trees others → (r : Reference) (place : List ℕ × ℕ) → FitsThere rules.below trees r place →
-      FitsThere rules.below others r place
-  fits_too all r place (tree, is, has, (type, called, under)) =
-      let (other, there, same) = there_too (all place.0) is in
-      (other, there, subst (λ (xs : List ℕ). Contains xs place.1) (same_exports same) has, (type, same_named same called, under))
-
+module _ (rules : Rules) (kept : TablesTellSight rules) where
   module _ {trees others : Trees} (all : HaveSameTables trees others) (back : HaveSameTables others trees) where
     link_too : {tree other : Parts} → SameTables tree other → (address : List ℕ) (r : Reference) (link : Link) → LinksTo rules trees address tree r link →
         LinksTo rules others address other r link
     link_too {tree} {other} same address r link leads =
-        link_over rules trees others address tree other r (λ n is. same_own same rules.below r is) (fits_too all r) (fits_too back r) link leads
+        link_over rules trees others address tree other r (λ n is. same_own same rules.below r is)
+        (λ place. same_there rules.below (rules.sees address tree) (rules.sees address other) (kept tree other same address) r place all)
+        (λ place. same_there rules.below (rules.sees address other) (rules.sees address tree) (kept other tree (turned same) address) r place back) link leads
 
     lead_too : {tree other : Parts} → SameTables tree other → {address : List ℕ} {place : Option Place} {link : Link} →
         LeadsFrom rules trees address tree place link → LeadsFrom rules others address other place link

@@ -60,7 +60,7 @@ module _ (rules : Rules) (trees : Trees) where
   link_named : (address : List ℕ) (tree : Parts) (r : Reference) (link : Link) → trees address ≡ Some tree → LinksTo rules trees address tree r link →
       IsNamedLink trees link
   link_named address tree r link there (own {n = n} is) = (tree, there, own_named tree r (Some n) is n refl)
-  link_named address tree r link there (out {place = place} _ fits _) = (fits.0, fits.1, fits_named fits.0 r place.1 fits.3)
+  link_named address tree r link there (out {place = place} _ fits _) = (fits.1, fits.2, fits_named fits.1 r place.1 fits.4)
   link_named address tree r link there (nowhere _ _) = tt
 
   lead_named : (address : List ℕ) (tree : Parts) (place : Option Place) (link : Link) → trees address ≡ Some tree → IsThere tree place →

@@ -86,7 +86,7 @@ target_within rules trees address tree r place links here other there = by (Some
       where
         found_fits : {P : ℕ → Type 0} {xs : List ℕ} → first.IsFirstIn P xs (Some n) → P n
         found_fits (first.found one) = one.does
-    by _ same (out {place = p} _ (t, is, among, fits) _) =
+    by _ same (out {place = p} _ (seen, t, is, among, fits) _) =
         let both = same_Some p place same in
         let where_ : t ≡ other = same_Some t other (sym is ∙ ap trees (ap (λ (p : List ℕ × ℕ). p.0) both) ∙ there) in
         subst₂ (λ (m : ℕ) (t : Parts). m < length t.nodes) (ap (λ (p : List ℕ × ℕ). p.1) both) where_ (inside t p.1 fits)

@@ -2,6 +2,7 @@
 use Rattle.std.proofs.Common.{◌≡◌, ◌↔◌, ℕ, List, [], ◌++◌, Some, map, length, not, slice_get, sym, ap, subst, ◌∙◌}
 use Rattle.std.proofs.lemmas.List.{append-nil}
 use Rattle.std.proofs.lemmas.List.Elements.{filter-append}
+use Rattle.lw_substitution.proofs.Linked.{looks_tell_sight}
 use Rattle.lw_base.specs.declared.token.Token.{Token}
 use Rattle.lw_link_rules.specs.Setting.{Setting}
 use Rattle.lw_grammar.specs.Kinds.{Kinds}
@@ -73,5 +74,5 @@ module _ (setting : Setting) (of : Kinds) (lexicon : Lexicon) (front name rest :
             found,
             at,
             from,
-            λ trees address. target_both (rules_of setting) trees address (length front_tree.refs) blank tree r found named_alike same.owner same.want found.name,
+            λ trees address. target_both (rules_of setting) (looks_tell_sight setting) trees address (length front_tree.refs) blank tree r found named_alike same.owner same.want found.name,
           )

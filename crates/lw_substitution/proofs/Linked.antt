@@ -4,6 +4,9 @@ use Rattle.std.specs.List.{AllZip, flat_map}
 use Rattle.std.specs.Option.{is_some}
 use Rattle.std.proofs.lemmas.Option.{none-some, same_Some}
 use Rattle.std.proofs.lemmas.List.Elements.{filter_agree}
+use Rattle.lw_link_rules.specs.Links.{rules_of}
+use Rattle.lw_link_rules.specs.Seeing.{everywhere}
+use Rattle.lw_link_rules.specs.Setting.{Setting}
 use Rattle.lw_base.specs.declared.token.Span.{Span}
 use Rattle.lw_base.specs.declared.numbers.NodeId.{NodeId}
 use Rattle.lw_base.specs.declared.numbers.TypeId.{TypeId}
@@ -152,7 +155,14 @@ look_same tree = record { nodes = all tree.nodes; named = λ n. refl }
     all [] = tt
     all (n ∷ ns) = (record { type_id = refl; container = refl; prop = refl }, all ns)
 
-module _ (rules : Rules) where
+-- what a document sees does not hang on the name of a reference of it
+abbrev pub LooksTellSight : Rules → Type 0
+LooksTellSight rules = (tree other : Parts) → LookAlike tree other → (address place : List ℕ) → rules.sees address tree place → rules.sees address other place
+
+pub looks_tell_sight : (setting : Setting) → LooksTellSight (rules_of setting)
+looks_tell_sight setting tree other like address place seen = everywhere
+
+module _ (rules : Rules) (kept : LooksTellSight rules) where
   tree_there : (tree other : Parts) (a b : Option Parts) (x : Parts) → LookAlike tree other → AreAlikeThere tree other a b → a ≡ Some x →
       (y : Parts) × (b ≡ Some y) × LookAlike x y
   tree_there tree other a b x like (inl same) is = (x, sym same ∙ is, look_same x)
@@ -160,18 +170,19 @@ module _ (rules : Rules) where
       (other, two, subst (λ (z : Parts). LookAlike z other) (same_Some tree x (sym one ∙ is)) like)
 
   fits_there : {trees others : Trees} {tree other : Parts} {r s : Reference} (place : List ℕ × ℕ) → LookAlike tree other →
-      ((a : List ℕ) → AreAlikeThere tree other (trees a) (others a)) → WantAlike r s → FitsThere rules.below trees r place → FitsThere rules.below others s place
-  fits_there {trees} {others} {tree} {other} place like all want (x, is, has, fits) =
+      ((a : List ℕ) → AreAlikeThere tree other (trees a) (others a)) → WantAlike r s → (address : List ℕ) →
+      FitsThere rules.below (rules.sees address tree) trees r place → FitsThere rules.below (rules.sees address other) others s place
+  fits_there {trees} {others} {tree} {other} place like all want address (seen, x, is, has, fits) =
       let (y, there, looks) = tree_there tree other (trees place.0) (others place.0) x like (all place.0) is in
-      (y, there, subst (λ (xs : List ℕ). Contains xs place.1) (exports_too looks) has, fits_too looks rules.below want fits)
+      (kept tree other like address place.0 seen, y, there, subst (λ (xs : List ℕ). Contains xs place.1) (exports_too looks) has, fits_too looks rules.below want fits)
 
   pub link_too : {trees others : Trees} {tree other : Parts} {r s : Reference} (address : List ℕ) (link : Link) → LookAlike tree other →
       ((a : List ℕ) → AreAlikeThere tree other (trees a) (others a)) → WantAlike r s → LinksTo rules trees address tree r link →
       LinksTo rules others address other s link
   link_too address link like all want (own is) = own (own_too like rules.below want is)
   link_too {trees} {others} {tree} {other} address link like all want (out {place} is fits least) =
-      out (own_too like rules.below want is) (fits_there place like all want fits)
-      (λ to was. least to (fits_there to (look_back like) (λ a. there_back tree other (trees a) (others a) (all a)) (want_back want) was))
+      out (own_too like rules.below want is) (fits_there place like all want address fits)
+      (λ to was. least to (fits_there to (look_back like) (λ a. there_back tree other (trees a) (others a) (all a)) (want_back want) address was))
   link_too {trees} {others} {tree} {other} address link like all want (nowhere is misses) =
       nowhere (own_too like rules.below want is)
-      (λ to was. misses to (fits_there to (look_back like) (λ a. there_back tree other (trees a) (others a) (all a)) (want_back want) was))
+      (λ to was. misses to (fits_there to (look_back like) (λ a. there_back tree other (trees a) (others a) (all a)) (want_back want) address was))

@@ -6,18 +6,18 @@ use Rattle.lw_tree.specs.declared.node.Reference.{Reference}
 use Rattle.lw_tree.specs.Parts.{Parts}
 use Rattle.lw_places.specs.Targets.{AreVisible, HasTarget, renamed_to}
 use Rattle.lw_substitution.specs.OneName.{AreAlikeTrees}
-use Rattle.lw_substitution.proofs.Linked.{AreAlikeThere, LookAlike, WantAlike, link_too, look_alike, look_back, want_back}
+use Rattle.lw_substitution.proofs.Linked.{AreAlikeThere, LookAlike, LooksTellSight, WantAlike, link_too, look_alike, look_back, want_back}
 use Rattle.lw_scoping.specs.Rules.{Rules}
 
 chosen : (b : Bool) (tree other : Parts) (there : Option Parts) → AreAlikeThere tree other (if b then Some tree else there) (if b then Some other else there)
 chosen true tree other there = inr (refl, refl)
 chosen false tree other there = inl refl
 
-module _ (rules : Rules) (trees : Trees) (address : List ℕ) where
+module _ (rules : Rules) (kept : LooksTellSight rules) (trees : Trees) (address : List ℕ) where
   target_too : {tree other : Parts} {r s : Reference} → LookAlike tree other → WantAlike r s → HasTarget rules trees address tree r →
       HasTarget rules trees address other s
   target_too {tree} {other} like want (target, is) =
-      (target, link_too rules address (Some target) like (λ a. chosen (bytes_eq a address) tree other (trees a)) want is)
+      (target, link_too rules kept address (Some target) like (λ a. chosen (bytes_eq a address) tree other (trees a)) want is)
 
   module _ (place : ℕ) (tree other : Parts) (r s : Reference) (like : AreAlikeTrees place tree other) (owner : r.owner ≡ s.owner) (want : r.want ≡ s.want) where
     renamed_alike : (name : List ℕ) → WantAlike (renamed_to name r) (renamed_to name s)
