@@ -517,6 +517,31 @@ def rewrite_rust(f):
     return text
 
 
+USE = re.compile(r"(?m)^(ghost )?use (Rattle\.[\w.]+)(?: as (\w+))?(?:\.\{([^}]*)\})?;?\n")
+
+
+def with_uses(text, lines):
+    """lines `use + MODULE NAME` and `use - MODULE NAME`; the name is `*` where the module itself is named, with its other name"""
+    for line in lines:
+        _, sign, module, name = line.split(" ", 3)
+        found = False
+        for m in list(USE.finditer(text)):
+            ghost, semi = m.group(1) or "", ";" if m.group(0).rstrip().endswith(";") else ""
+            if m.group(2) != module or m.group(3): continue
+            names = [x.strip() for x in m.group(4).split(",") if x.strip()]
+            found = True
+            if sign == "+" and name not in names: names.append(name)
+            if sign == "-": names = [x for x in names if x != name]
+            new = "%suse %s.{%s}%s\n" % (ghost, module, ", ".join(names), semi) if names else ""
+            text = text.replace(m.group(0), new)
+            break
+        if sign == "+" and not found:
+            at = list(USE.finditer(text))[-1]
+            ghost, semi = at.group(1) or "", ";" if at.group(0).rstrip().endswith(";") else ""
+            text = text[: at.end()] + "%suse %s.{%s}%s\n" % (ghost, module, name, semi) + text[at.end():]
+    return text
+
+
 def edits(when, only):
     """what no rule says: in this file this becomes that"""
     path = os.path.join(os.path.dirname(os.path.abspath(__file__)), "setting_%s.txt" % when)
@@ -528,11 +553,16 @@ def edits(when, only):
         if only and head.split("/")[1] not in only: continue
         file = os.path.join(TOP, head.strip())
         text = open(file, encoding="utf-8").read() if os.path.exists(file) else ""
-        if old and text.count(old) == 1 and (new not in text or old in new): text = text.replace(old, new)
+        if old.startswith("use "):
+            text = with_uses(text, old.split("\n"))
+        elif old in text and not (old in new and new in text) and old:
+            if text.count(old) > 1: print("twice:", head, "|", old.split("\n")[0][:80]); continue
+            text = text.replace(old, new)
         elif not old and not text: text = new + "\n"
         elif new in text: continue
         else:
             print("lost:", head, "|", old.split("\n")[0][:80]); continue
+        os.makedirs(os.path.dirname(file), exist_ok=True)
         open(file, "w", encoding="utf-8").write(text)
 
 
