@@ -229,6 +229,7 @@ def variables(node, which):
         if re.search(r": (?:plain\.)?Grammar →", node.text) and node.name:
             m = re.search(r"(?m)^" + re.escape(node.name) + r" ([A-Za-z_]\w*)", node.text)
             if m: names.add(m.group(1))
+        names |= set(re.findall(r"let (\w+) = (?:[\w.'-]+\.(?:grammar|setting)|grammar_of [\w.'-]+) in", node.text))
         names |= {"g", "h"} & set(re.findall(r"[A-Za-z_][\w'-]*", node.text))
     return names
 
@@ -313,6 +314,7 @@ def convert_path(node, it, wants):
     if LANGUAGE.search(before) or before in ("l",) and node.file.crate != "lw_commands":
         return "(setting_of " + before + ")" if wants else it.text
     if wants: return before + ".setting"
+    if re.search(r"(^|\.)loaded$", before): return it.text
     if node.file.crate in VIEWING: return before + ".setting.grammar"
     return it.text
 
@@ -331,8 +333,12 @@ def rewrite(node):
             if kind != "part": return
             for it in part:
                 if is_word(it) and it.text.endswith(".grammar") and not it.text.startswith("Rattle") and not LANGUAGE.search(it.text[: -8]):
-                    if it.text[:-8] == "l": continue
+                    if it.text[:-8] == "l" or re.search(r"(^|\.)loaded$", it.text[:-8]): continue
                     it.out = it.text[: -8] + ".setting"
+                    if len(part) == 1 and part.left and len(part.left) == 1 and is_word(part.left[0]) and part.left[0].text not in settings | {"grammar"}:
+                        it.out += ".grammar"
+                elif is_word(it) and it.text in variables(node, "setting") - settings and len(part) == 1 and part.left and is_word(part.left[0], "grammar"):
+                    part.left[0].out = "grammar"
             if is_word(part[0], "grammar") and group.open is not None and group.open.text == "{" and above and any(is_word(x, "record") for x in above[0]):
                 part[0].out = "setting"
         node.walk(visit_paths)
@@ -455,6 +461,8 @@ def fix_uses(f, text):
         if at: text = text[: at[-1].end()] + "%suse Rattle.%s.{%s}%s\n" % (ghost, where, name, semi) + text[at[-1].end():]
         else: reports.append((f.path, "use", name))
     # what is no longer used
+    m = re.search(r"(?m)^%suse Rattle\.lw_grammar\.specs\.declared\.grammar\.Grammar as (\w+)%s\n" % (ghost, semi), text)
+    if m and not re.search(r"\b%s\." % m.group(1), text): text = text.replace(m.group(0), "")
     for where, name in (("lw_grammar.specs.declared.grammar.Grammar", "Grammar"), ("lw_link_rules.specs.Links", "IsNumberBelow"),
             ("lw_complete.specs.Typing", "grammar_of")):
         if used(name) == 0 and not (f.rust and re.search(r"\b" + name + r"\b", re.sub(r"(?m)^\s*(ghost )?use [^\n]*\n", "", text))):
@@ -563,6 +571,7 @@ def edits(when, only):
         else:
             print("lost:", head, "|", old.split("\n")[0][:80]); continue
         os.makedirs(os.path.dirname(file), exist_ok=True)
+        if not text.endswith("\n"): text += "\n"
         open(file, "w", encoding="utf-8").write(text)
 
 
