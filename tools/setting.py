@@ -335,7 +335,7 @@ def rewrite(node):
                 if is_word(it) and it.text.endswith(".grammar") and not it.text.startswith("Rattle") and not LANGUAGE.search(it.text[: -8]):
                     if it.text[:-8] == "l" or re.search(r"(^|\.)loaded$", it.text[:-8]): continue
                     it.out = it.text[: -8] + ".setting"
-                    if len(part) == 1 and part.left and len(part.left) == 1 and is_word(part.left[0]) and part.left[0].text not in settings | {"grammar"}:
+                    if len(part) == 1 and part.left and part.left.pattern and len(part.left) == 1 and is_word(part.left[0]) and part.left[0].text not in settings | {"grammar"}:
                         it.out += ".grammar"
                 elif is_word(it) and it.text in variables(node, "setting") - settings and len(part) == 1 and part.left and is_word(part.left[0], "grammar"):
                     part.left[0].out = "grammar"

@@ -1,6 +1,5 @@
 -- Where references lead, and what a document is told, depends on the exports of the names that it looks for and exports, and on no others.
 use Rattle.std.proofs.Common.{◌≡◌, ◌⊎◌, inl, inr, ℕ, List, Option, Some, None, Contains, sym, ◌∙◌}
-use Rattle.lw_link_rules.specs.Seeing.{Sees}
 use Rattle.lw_link_rules.specs.Setting.{Setting}
 use Rattle.lw_scoping.specs.Doubles.{DoesExport, IsLeastOther}
 use Rattle.lw_scoping.specs.Links.{FitsThere, Link, LinksTo, Trees}
@@ -11,6 +10,7 @@ use Rattle.lw_link_rules.proofs.SameTables.{link_over}
 use Rattle.lw_tree.specs.declared.node.Reference.{Reference}
 use Rattle.lw_tree.specs.Parts.{Parts}
 use Rattle.lw_scoping.specs.Rules.{Rules}
+use Rattle.lw_link_rules.specs.Seeing.{Sees}
 
 -- nothing is exported by this name
 abbrev pub ExportsNone : Option Parts → List ℕ → Type 0

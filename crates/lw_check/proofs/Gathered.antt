@@ -5,8 +5,6 @@ use Rattle.std.specs.List.{AllZip}
 use Rattle.std.specs.Prelude.{if◌then◌else◌}
 use Rattle.std.proofs.lemmas.Bool.Decides.{nat_tests}
 use Rattle.std.proofs.lemmas.Option.{none-some, slice_get-get_or, slice_get_within}
-use Rattle.lw_link_rules.specs.Seeing.{Sees}
-use Rattle.lw_link_rules.proofs.Seeing.{sees_all}
 use Rattle.lw_link_rules.specs.Setting.{Setting}
 use Rattle.lw_index.specs.declared.parts.Answer.{Answer}
 use Rattle.lw_index.specs.declared.parts.Answer.TheVariants.{Missing}
@@ -30,6 +28,8 @@ use Rattle.lw_check.specs.Sorting.{AreShown}
 use Rattle.lw_check.specs.Telling.{AreTold, AreToldAndShown, IsTold, TellsValue}
 use Rattle.lw_check.proofs.Answered.{leads_nowhere, is_missing, missing, missing_alone}
 use Rattle.lw_check.proofs.Others.{least_other, least_rival, no_least}
+use Rattle.lw_link_rules.proofs.Seeing.{sees_all}
+use Rattle.lw_link_rules.specs.Seeing.{Sees}
 
 pub there : {X : Type 0} (y : X) (xs : List X) (x : X) → Contains xs x → Contains (y ∷ xs) x
 there y xs x (k, inside, is) = (suc k, omega (arith, inside), is)

@@ -67,7 +67,7 @@ works_unread (Some files) None after path k refused old g e r holds clear stops 
 works_unread (Some files) (Some held) after path k refused old g e (Ok verdict) holds clear stops is = absurd is
 works_unread (Some files) (Some held) after path k refused old g e (Err s) holds clear stops is =
     subst (λ s. CheckComesTo files path k held refused after old old (Err s)) (sym is)
-    (unread files path k held refused after old old (record { setting = g; holds = holds; clear = clear }) e stops (Keeps-refl old))
+    (unread files path k held refused after old old (record { grammar = g; holds = holds; clear = clear }) e stops (Keeps-refl old))
 
 -- ---- printing
 

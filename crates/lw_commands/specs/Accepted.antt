@@ -10,7 +10,7 @@ use Rattle.lw_load.specs.declared.loader.Loaded.{Loaded}
 pub record IsAccepted (files : Files) (path : List ℕ) (k : ℕ) (g : plain.Grammar) : Type 0 where
   pub loaded : Loaded
   pub loads : Loads files path loaded
-  pub same : loaded.setting ≡ g
+  pub same : loaded.grammar ≡ g
   pub clear : IsClear g k
 
 -- a grammar is held there, and it is built

@@ -2,7 +2,6 @@
 use Rattle.std.specs.Prelude.{ℕ, ◌≡◌, ◌≢◌, ◌≤◌, ◌+◌, ◌⊎◌, List, Option, Some, Result, Ok, Err, IfSome, length, take}
 use Rattle.std.specs.Io.KnownBytes.{Appends, Consumes, Keeps}
 use Rattle.lw_base.specs.declared.limits.TheConstants.{LONGEST_DOCUMENT}
-use Rattle.lw_grammar.specs.declared.grammar.Grammar as plain
 use Rattle.lw_link_rules.specs.Setting.{Setting}
 use Rattle.lw_io.specs.Whole.{TakesFewer, WritesFront}
 use Rattle.lw_load.specs.Loading.{Files}

@@ -1,7 +1,6 @@
 -- What `make` writes, by its outcome: the summary of a workspace that is generated and built by the grammar.
 use Rattle.std.specs.Prelude.{ℕ, ◌≡◌, ◌⊎◌, List, Option, Result, Ok, Err}
 use Rattle.std.specs.Io.KnownBytes.{Appends, Keeps}
-use Rattle.lw_grammar.specs.declared.grammar.Grammar as plain
 use Rattle.lw_link_rules.specs.Setting.{Setting}
 use Rattle.lw_io.specs.Whole.{WritesFront}
 use Rattle.lw_load.specs.Loading.{Files}

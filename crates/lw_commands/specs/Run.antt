@@ -1,7 +1,6 @@
 -- How a run ends: what its work came to, and the status, the counts of faults and the note by which that is told.
 use Rattle.std.specs.Prelude.{ℕ, ◌≡◌, ◌≢◌, ◌<◌, ◌⊎◌, List, Option, Result, Err, IfErr, IfSome, MatchOption}
 use Rattle.std.specs.Io.KnownBytes.{Keeps}
-use Rattle.lw_grammar.specs.declared.grammar.Grammar as plain
 use Rattle.lw_link_rules.specs.Setting.{Setting}
 use Rattle.lw_io.specs.Causes.{Rose}
 use Rattle.lw_commands.specs.declared.report.Verdict.{Verdict}

@@ -3,7 +3,6 @@
 -- Language Server Protocol 3.17, "Base Protocol" and "Server lifecycle".
 use Rattle.std.specs.Prelude.{ℕ, ◌≡◌, ◌<◌, ◌≤◌, ◌⊎◌, List, [], ◌∷◌, ◌++◌, All, length, take, true, false, Option, Some, None, Result, Ok, Err}
 use Rattle.std.specs.Io.KnownBytes.{Appends, Consumes, IsAtEnd, Keeps}
-use Rattle.lw_grammar.specs.declared.grammar.Grammar as plain
 use Rattle.lw_link_rules.specs.Setting.{Setting}
 use Rattle.lw_frame.specs.Frames.{bodies_of, fault_of, rest_of}
 use Rattle.lw_frame.specs.declared.fault.FrameFault.{FrameFault}

@@ -2,7 +2,6 @@
 use Rattle.std.specs.Prelude.{ℕ, ◌≡◌, ◌<◌, ◌≤◌, ◌⊎◌, All, List, length, true, false, Option, Some, None, Result, Ok, Err}
 use Rattle.std.specs.List.{flat_map}
 use Rattle.std.specs.Io.KnownBytes.{Appends, Consumes, IsAtEnd, Keeps}
-use Rattle.lw_grammar.specs.declared.grammar.Grammar as plain
 use Rattle.lw_link_rules.specs.Setting.{Setting}
 use Rattle.lw_frame.specs.Frames.{bodies_of, fault_of, frame_of}
 use Rattle.lw_frame.specs.Stream.{Stream, with_piece}

@@ -2,7 +2,6 @@
 use Rattle.std.proofs.Common.{◌≡◌, ◌+◌, ◌≤◌, ℕ, codes, List, [], ◌∷◌, ◌++◌, Option, Some, None, Bool, true, false, not, cond, map, length, slice_get, refl, sym, ap, subst, ◌∙◌, arith}
 use Rattle.std.proofs.lemmas.List.{append-nil, append_assoc}
 use Rattle.std.proofs.lemmas.List.Elements.{All-head, All-tail, filter-append}
-use Rattle.lw_substitution.proofs.Linked.{looks_tell_sight}
 use Rattle.lw_base.specs.declared.numbers.PropId.{PropId}
 use Rattle.lw_base.specs.declared.token.Token.{Token}
 use Rattle.lw_builder.specs.Built.{ArePartsOf}
@@ -44,6 +43,7 @@ use Rattle.lw_substitution.proofs.Tabled.{trees_alike}
 use Rattle.lw_substitution.proofs.Targeted.{target_both}
 use Rattle.lw_substitution.proofs.Written.{front_kept}
 use Rattle.lw_substitution.proofs.Around.{moved_kinds}
+use Rattle.lw_substitution.proofs.Linked.{looks_tell_sight}
 
 -- ---- one tree of the same marks
 

@@ -2,9 +2,6 @@
 use Rattle.std.proofs.Common.{◌≡◌, ◌+◌, ◌++◌, ℕ, List, Bool, true, false, Option, Some, None, Contains, if◌then◌else◌, length, refl, sym, subst}
 use Rattle.std.specs.Str.{bytes_eq}
 use Rattle.std.proofs.lemmas.Option.{same_Some}
-use Rattle.lw_link_rules.specs.Seeing.{Sees}
-use Rattle.lw_link_rules.proofs.Seeing.{tables_tell_sight}
-use Rattle.lw_scoping.proofs.Tables.{same_there}
 use Rattle.lw_grammar.specs.declared.grammar.Grammar.{Grammar}
 use Rattle.lw_link_rules.specs.Setting.{Setting}
 use Rattle.lw_places.specs.Targets.{HasTarget, having_tree}
@@ -17,7 +14,7 @@ use Rattle.lw_link_rules.specs.Links.{IsNumberBelow, rules_of}
 use Rattle.lw_link_rules.proofs.SameTables.{link_over}
 use Rattle.lw_scoping.specs.Alike.{AreAlike, HaveSameTables, both, neither}
 use Rattle.lw_scoping.specs.Links.{Trees}
-use Rattle.lw_scoping.proofs.Tables.{same_own, turned}
+use Rattle.lw_scoping.proofs.Tables.{same_own, turned, same_there}
 use Rattle.lw_tree.specs.declared.issue.Issue.{Issue}
 use Rattle.lw_tree.specs.declared.node.Reference.{Reference}
 use Rattle.lw_tree.specs.Parts.{Parts, SameTables}
@@ -26,6 +23,8 @@ use Rattle.lw_complete.specs.declared.judging.Judgement.TheVariants.{Leads, Lead
 use Rattle.lw_complete.specs.declared.typing.Typing.{Typing}
 use Rattle.lw_complete.specs.Judged.{IsJudgement, IsToldOf, StandsBetween, StandsWhole}
 use Rattle.lw_complete.specs.Typing.{grammar_of, typing_setting}
+use Rattle.lw_link_rules.proofs.Seeing.{tables_tell_sight}
+use Rattle.lw_link_rules.specs.Seeing.{Sees}
 
 same_as_itself : (tree : Parts) → SameTables tree tree
 same_as_itself tree = record { nodes = refl; values = λ n p. refl; refs = refl; tokens = refl; name = refl }
@@ -41,6 +40,7 @@ having_alike trees address {tree} {other} same place = by (bytes_eq place addres
     by : (is : Bool) → AreAlike (if is then Some tree else trees place) (if is then Some other else trees place)
     by true = both same
     by false = alike_itself (trees place)
+
 
 pub target_over : (setting : Setting) (trees : Trees) (address : List ℕ) (tree other : Parts) (r : Reference) → SameTables tree other →
     HasTarget (rules_of setting) trees address tree r → HasTarget (rules_of setting) trees address other r

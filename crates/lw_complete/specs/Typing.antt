@@ -1,7 +1,5 @@
 -- What is known where a word is being typed.
 use Rattle.std.specs.Prelude.{ℕ, ◌≡◌, List}
-use Rattle.lw_lang.specs.Language.{setting_of}
-use Rattle.lw_link_rules.specs.Setting.{Setting}
 use Rattle.lw_builder.specs.Built.{ArePartsOf}
 use Rattle.lw_grammar.specs.declared.grammar.Grammar.{Grammar}
 use Rattle.lw_grammar.specs.Kinds.{AreKinds, Kinds}
@@ -17,6 +15,8 @@ use Rattle.lw_tree.specs.Parts.{Tile}
 use Rattle.lw_viable.specs.Aims.{Sentence}
 use Rattle.lw_viable.specs.Fronts.{FrontsParts, HoldReadings}
 use Rattle.lw_complete.specs.declared.typing.Typing.{Typing}
+use Rattle.lw_lang.specs.Language.{setting_of}
+use Rattle.lw_link_rules.specs.Setting.{Setting}
 
 -- the grammar of the language
 abbrev pub grammar_of : Typing → Grammar

@@ -3,7 +3,6 @@ use Rattle.std.proofs.Common.{◌≡◌, ◌<◌, ℕ, List, All, Bool, true, fa
 use Rattle.std.proofs.lemmas.Bool.{cases_order}
 use Rattle.std.proofs.lemmas.List.Elements.{All-get_or}
 use Rattle.std.proofs.lemmas.Option.{same_Some, none-some, slice_get_within, slice_get-get_or}
-use Rattle.lw_machine.proofs.Seeing.{sees_or_not}
 use Rattle.lw_base.specs.declared.numbers.NodeId.{NodeId}
 use Rattle.lw_base.specs.declared.token.Span.{Span}
 use Rattle.lw_grammar.specs.declared.grammar.Grammar.{Grammar}
@@ -36,6 +35,7 @@ use Rattle.lw_places.specs.Places.{IsPlaceAt, TakesUp}
 use Rattle.lw_places.specs.declared.place.Place.{Place}
 use Rattle.lw_places.specs.declared.place.Place.TheVariants.{Named, Refers}
 use Rattle.lw_conversation.proofs.SomePlace.{some_place}
+use Rattle.lw_machine.proofs.Seeing.{sees_or_not}
 
 -- ---- the order of mentions
 

@@ -9,7 +9,6 @@ use Rattle.std.specs.declared.cmp.Ordering.{Ordering}
 use Rattle.std.specs.declared.cmp.Ordering.TheVariants.{Less, Equal, Greater}
 use Rattle.std.proofs.lemmas.Cmp.{ranked}
 use Rattle.std.proofs.lemmas.Option.{none-some, same_Some}
-use Rattle.lw_link_rules.specs.Seeing.{Sees, everywhere}
 use Rattle.lw_link_rules.specs.Setting.{Setting}
 use Rattle.lw_grammar.specs.Subtypes.{IsSubtype}
 use Rattle.lw_reading.specs.Numbers.{IsNumberOfType}
@@ -28,6 +27,7 @@ use Rattle.lw_index.specs.Exported.{export_of}
 use Rattle.lw_index.specs.Firsts.{IsNotBehind, IsWanted, IsFirstExport, NoneWanted}
 use Rattle.lw_index.specs.Indexed.{Indexed}
 use Rattle.lw_link.specs.Indexed.{AreEntriesAt, treeless, whole, IsIndexOf, IsDocumentOf, address_in, link_of}
+use Rattle.lw_link_rules.specs.Seeing.{Sees, everywhere}
 
 -- ---- the order
 

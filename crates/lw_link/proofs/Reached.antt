@@ -9,9 +9,6 @@ use Rattle.std.specs.Ordering.{eq_by_cmp, nat_cmp}
 use Rattle.std.specs.declared.cmp.Ordering.TheVariants.{Less}
 use Rattle.std.specs.Prelude.{IsTrue}
 use Rattle.std.proofs.lemmas.Option.{none-some, same_Some}
-use Rattle.lw_link_rules.specs.Seeing.{Sees}
-use Rattle.lw_link_rules.proofs.Seeing.{sees_all}
-use Rattle.lw_machine.proofs.Seeing.{sees_or_not}
 use Rattle.lw_base.specs.declared.numbers.NodeId.{NodeId}
 use Rattle.lw_faults.specs.Finding.{Finds, OfSome}
 use Rattle.lw_faults.proofs.Joining.{Finds-then}
@@ -39,6 +36,9 @@ use Rattle.lw_link.specs.Visible.{IsNameOf, IsNumberAt}
 use Rattle.lw_link.proofs.Leading.{Now, SomeFits, elsewhere_fits, fits_somewhere, here_fits, here_or_elsewhere, none_on_way, some_fits, target_of}
 use Rattle.lw_link.proofs.Linked.{below, fits, fits_held, inside, own_below}
 use Rattle.lw_link.proofs.RootLemmas.{on_the_way}
+use Rattle.lw_link_rules.proofs.Seeing.{sees_all}
+use Rattle.lw_link_rules.specs.Seeing.{Sees}
+use Rattle.lw_machine.proofs.Seeing.{sees_or_not}
 
 -- ---- the addresses of all documents
 

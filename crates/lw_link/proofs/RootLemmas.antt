@@ -8,7 +8,6 @@ use Rattle.std.specs.Prelude.{if◌then◌else◌}
 use Rattle.std.specs.Str.{bytes_eq}
 use Rattle.std.proofs.lemmas.Option.{same_Some}
 use Rattle.std.proofs.lemmas.Slice.Eq.{bytes_eq-Decides}
-use Rattle.lw_link_rules.specs.Seeing.{Sees, everywhere}
 use Rattle.lw_link_rules.specs.Setting.{Setting}
 use Rattle.lw_index.specs.declared.parts.Answer.{Answer}
 use Rattle.lw_index.specs.declared.parts.Answer.TheVariants.{Found, Missing}
@@ -28,6 +27,7 @@ use Rattle.lw_tree.specs.declared.node.Reference.{Reference}
 use Rattle.lw_types.specs.Sets.{AreNumbersBelow}
 use Rattle.lw_link.specs.Alone.{IsRootAnswer, link_at}
 use Rattle.lw_link.proofs.Linked.{own_below, below, inside}
+use Rattle.lw_link_rules.specs.Seeing.{Sees, everywhere}
 
 -- ---- the one document
 

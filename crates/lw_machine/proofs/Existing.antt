@@ -20,7 +20,6 @@ use Rattle.lw_link_rules.specs.Diagnostics as told
 use Rattle.lw_link_rules.specs.Diagnostics.{AreDiagnostics}
 use Rattle.lw_link_rules.specs.Links as of_text
 use Rattle.lw_link_rules.specs.Links.{Texts, IsTreeOfText, AreTreesOfTexts, AreLinks, rules_of}
-use Rattle.lw_machine.proofs.Seeing.{sees_or_not}
 use Rattle.lw_machine.specs.Linked.{HasLinksAndList}
 use Rattle.lw_machine.specs.Readable.{AreReadable, IsReadable}
 use Rattle.lw_machine.specs.Telling.{TellsTypes}
@@ -28,6 +27,7 @@ use Rattle.lw_machine.proofs.Finite.{here, there}
 use Rattle.lw_machine.proofs.Linking.{StandAmong, link}
 use Rattle.lw_machine.proofs.Showing.{all_shown, fault_shown}
 use Rattle.lw_machine.proofs.Telling.{some_diagnostics}
+use Rattle.lw_machine.proofs.Seeing.{sees_or_not}
 
 -- ---- trees
 

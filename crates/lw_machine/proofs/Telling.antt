@@ -21,14 +21,14 @@ use Rattle.lw_scoping.specs.Outward.{ContainersComeFirst}
 use Rattle.lw_scoping.specs.Symbols.{IsNamedNode, exports}
 use Rattle.lw_link_rules.specs.Links.{IsNumberBelow, rules_of}
 use Rattle.lw_link_rules.specs.TreeDiagnostics.{Diagnostic, DiagnosticPrecedes, by_start, by_code, by_end, by_message, IsDiagnosticOf, unresolved, duplicate, also_exported, number, AreDiagnosticsOf, unresolved_at, duplicate_at, also_exported_at, out_of_range}
-use Rattle.lw_link_rules.specs.Seeing.{Sees}
-use Rattle.lw_machine.proofs.Seeing.{sees_or_not}
 use Rattle.lw_machine.proofs.Finite.{Decided, Listed, here, there, nothing, here_or_there, below, is_below, as_listed, each_listed, either_listed, none_listed, one_listed}
 use Rattle.lw_machine.proofs.Comparing.{Compared, compared, before, same, after, further}
 use Rattle.lw_machine.proofs.Nodes.{IsCalled, called, one_name, one_span, one_type, so_named}
 use Rattle.lw_machine.proofs.Linking.{StandAmong, leads_nowhere}
 use Rattle.lw_machine.proofs.Sorting.{in_order}
 use Rattle.lw_machine.proofs.Doubling.{has_double, least_other, one_least_other}
+use Rattle.lw_link_rules.specs.Seeing.{Sees}
+use Rattle.lw_machine.proofs.Seeing.{sees_or_not}
 
 -- ---- the order of diagnostics
 

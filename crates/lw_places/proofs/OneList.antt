@@ -6,7 +6,6 @@ use Rattle.std.specs.Str.{bytes_eq}
 use Rattle.std.specs.declared.cmp.Ordering.TheVariants.{Less, Greater}
 use Rattle.std.proofs.lemmas.Cmp.{nat_list_cmp_total}
 use Rattle.std.proofs.lemmas.Option.{same_Some}
-use Rattle.lw_link_rules.specs.Seeing.{Sees}
 use Rattle.lw_base.specs.declared.token.Token.{Token}
 use Rattle.lw_base.proofs.Sorted.{same_list}
 use Rattle.lw_link_rules.specs.Setting.{Setting}
@@ -18,7 +17,7 @@ use Rattle.lw_link_rules.proofs.SameTables.{link_over}
 use Rattle.lw_link_rules.proofs.SameTexts.{same_tables}
 use Rattle.lw_scoping.specs.Alike.{AreAlike, HaveSameTables, both, neither}
 use Rattle.lw_scoping.specs.Links.{Trees}
-use Rattle.lw_scoping.proofs.Tables.{same_there, turned}
+use Rattle.lw_scoping.proofs.Tables.{turned, same_there}
 use Rattle.lw_tokens.specs.Lexicon.{IsLexicon, Lexicon}
 use Rattle.lw_tokens.proofs.OnePattern.{one_lexicon}
 use Rattle.lw_tree.specs.declared.node.Reference.{Reference}
@@ -30,6 +29,7 @@ use Rattle.lw_places.specs.Starting as start
 use Rattle.lw_places.specs.Targets.{AreVisible, HasTarget, having_tree, renamed_to}
 use Rattle.lw_places.specs.Words.{BeginsBy}
 use Rattle.lw_scoping.specs.Rules.{Rules}
+use Rattle.lw_link_rules.specs.Seeing.{Sees}
 
 names_strict : (a b : List ℕ) → slice_cmp nat_cmp a b ≡ Less → slice_cmp nat_cmp b a ≡ Less → ⊥
 names_strict a b one other = by (sym one ∙ nat_list_cmp_total.antisymm a b ∙ ap ordering_reverse other)
@@ -61,9 +61,11 @@ having_alike {trees} {others} address tree all other = by (bytes_eq other addres
     by true same = subst (λ b. AreAlike (if b then Some tree else trees other) (if b then Some tree else others other)) (sym same) (both itself)
     by false same = subst (λ b. AreAlike (if b then Some tree else trees other) (if b then Some tree else others other)) (sym same) (all other)
 
+
 alike_back : {a b : Option Parts} → AreAlike a b → AreAlike b a
 alike_back (both same) = both (turned same)
 alike_back neither = neither
+
 
 target_too : (setting : Setting) {trees others : Trees} (address : List ℕ) (tree : Parts) (r : Reference) → HaveSameTables trees others →
     HasTarget (rules_of setting) trees address tree r → HasTarget (rules_of setting) others address tree r

@@ -1,6 +1,5 @@
 -- By a grammar by which a text is read in one way, what is asked for at an offset has one answer at most.
 use Rattle.std.proofs.Common.{◌≡◌, ℕ, List, Bool, Option}
-use Rattle.lw_link_rules.proofs.Seeing.{tables_tell_sight}
 use Rattle.lw_link_rules.specs.Setting.{Setting}
 use Rattle.lw_reading.specs.Laws.{IsReadOneWay}
 use Rattle.lw_link_rules.specs.Links.{Texts, rules_of}
@@ -9,6 +8,7 @@ use Rattle.lw_places.specs.Asked.{AreReferences, IsDefinition}
 use Rattle.lw_places.specs.Mentions.{Mention}
 use Rattle.lw_places.proofs.OneMeant.{one_definition, one_references}
 use Rattle.lw_places.proofs.SameTrees.{definition_too, references_too}
+use Rattle.lw_link_rules.proofs.Seeing.{tables_tell_sight}
 
 module _ (setting : Setting) (one_way : IsReadOneWay setting.grammar) (texts : Texts) (address : List ℕ) (offset : ℕ) where
   pub one_place_of_definition : (m other : Option Mention) → IsDefinition setting texts address offset m → IsDefinition setting texts address offset other → m ≡ other

@@ -1,15 +1,13 @@
 -- What is meant at a place, where its name stands and where it is mentioned goes over to trees with the same tables.
 use Rattle.std.proofs.Common.{◌≡◌, ◌<◌, ℕ, List, Bool, Option, Some, None, Contains, length, slice_get, refl, sym, ap, ◌∙◌, subst}
 use Rattle.std.proofs.lemmas.Option.{same_Some}
-use Rattle.lw_scoping.specs.Alike.{TablesTellSight}
-use Rattle.lw_scoping.proofs.Tables.{same_there, turned}
 use Rattle.lw_base.specs.declared.token.Span.{Span}
 use Rattle.lw_tree.specs.declared.node.Node.{Node}
 use Rattle.lw_tree.specs.declared.node.Reference.{Reference}
 use Rattle.lw_tree.specs.Parts.{Parts, SameTables}
-use Rattle.lw_scoping.specs.Alike.{AreAlike, both, neither, HaveSameTables}
+use Rattle.lw_scoping.specs.Alike.{AreAlike, both, neither, HaveSameTables, TablesTellSight}
 use Rattle.lw_scoping.specs.Links.{Link, LinksTo, Trees}
-use Rattle.lw_scoping.proofs.Tables.{same_exports, same_named, same_names, same_own, turned}
+use Rattle.lw_scoping.proofs.Tables.{same_exports, same_named, same_names, same_own, turned, same_there}
 use Rattle.lw_link_rules.proofs.SameTables.{link_over}
 use Rattle.lw_places.specs.Mentions.{
   AreMentionsOf,

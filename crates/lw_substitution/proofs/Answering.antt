@@ -2,7 +2,6 @@
 use Rattle.std.proofs.Common.{◌≡◌, ◌↔◌, ℕ, List, [], ◌++◌, Some, map, length, not, slice_get, sym, ap, subst, ◌∙◌}
 use Rattle.std.proofs.lemmas.List.{append-nil}
 use Rattle.std.proofs.lemmas.List.Elements.{filter-append}
-use Rattle.lw_substitution.proofs.Linked.{looks_tell_sight}
 use Rattle.lw_base.specs.declared.token.Token.{Token}
 use Rattle.lw_link_rules.specs.Setting.{Setting}
 use Rattle.lw_grammar.specs.Kinds.{Kinds}
@@ -25,6 +24,7 @@ use Rattle.lw_substitution.proofs.Standing.{stands_whole}
 use Rattle.lw_substitution.proofs.Targeted.{target_both}
 use Rattle.lw_substitution.proofs.Written.{name_for_blank}
 use Rattle.lw_substitution.proofs.Zipped.{zip_at}
+use Rattle.lw_substitution.proofs.Linked.{looks_tell_sight}
 
 module _ (setting : Setting) (of : Kinds) (lexicon : Lexicon) (front name rest : List ℕ) (tokens : List Token) (next : ReferenceNext) (front_tree blank : Parts)
     (s r : Reference) (makes : MakesReference next.op next.value) (row : StandInRow front 0 (visible tokens)) (before : IsFrontTree setting.grammar of front tokens next front_tree s)

@@ -4,9 +4,6 @@ use Rattle.std.specs.List.{AllZip, flat_map}
 use Rattle.std.specs.Option.{is_some}
 use Rattle.std.proofs.lemmas.Option.{none-some, same_Some}
 use Rattle.std.proofs.lemmas.List.Elements.{filter_agree}
-use Rattle.lw_link_rules.specs.Links.{rules_of}
-use Rattle.lw_link_rules.specs.Seeing.{everywhere}
-use Rattle.lw_link_rules.specs.Setting.{Setting}
 use Rattle.lw_base.specs.declared.token.Span.{Span}
 use Rattle.lw_base.specs.declared.numbers.NodeId.{NodeId}
 use Rattle.lw_base.specs.declared.numbers.TypeId.{TypeId}
@@ -19,6 +16,9 @@ use Rattle.lw_scoping.specs.Firsts.{IsFirstIn, found, none}
 use Rattle.lw_scoping.specs.Links.{Trees, Link, Fits, IsOwn, FitsThere, LinksTo, own, out, nowhere}
 use Rattle.lw_substitution.specs.OneName.{AreAlikeTrees, IsAlikeNode, name_said}
 use Rattle.lw_scoping.specs.Rules.{Rules}
+use Rattle.lw_link_rules.specs.Links.{rules_of}
+use Rattle.lw_link_rules.specs.Seeing.{everywhere}
+use Rattle.lw_link_rules.specs.Setting.{Setting}
 
 -- what links depend on: the nodes and their names
 pub record LookAlike (tree other : Parts) : Type 0 where

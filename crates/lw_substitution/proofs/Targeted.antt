@@ -6,7 +6,7 @@ use Rattle.lw_tree.specs.declared.node.Reference.{Reference}
 use Rattle.lw_tree.specs.Parts.{Parts}
 use Rattle.lw_places.specs.Targets.{AreVisible, HasTarget, renamed_to}
 use Rattle.lw_substitution.specs.OneName.{AreAlikeTrees}
-use Rattle.lw_substitution.proofs.Linked.{AreAlikeThere, LookAlike, LooksTellSight, WantAlike, link_too, look_alike, look_back, want_back}
+use Rattle.lw_substitution.proofs.Linked.{AreAlikeThere, LookAlike, WantAlike, link_too, look_alike, look_back, want_back, LooksTellSight}
 use Rattle.lw_scoping.specs.Rules.{Rules}
 
 chosen : (b : Bool) (tree other : Parts) (there : Option Parts) → AreAlikeThere tree other (if b then Some tree else there) (if b then Some other else there)

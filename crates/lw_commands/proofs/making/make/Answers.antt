@@ -5,15 +5,16 @@ use Rattle.lw_lang.proofs.OneWay.{one_way}
 use Rattle.lw_commands.proofs.Counting.{printed_source}
 use Rattle.lw_commands.proofs.Summed.{makes_told, makes_without_memory}
 use Rattle.lw_commands.proofs.making.make.Goals as goal
+use Rattle.lw_lang.specs.Language.{setting_of}
 
 pub returns-clause-works : goal.returns-clause-works
 returns-clause-works g c =
-    let of = c.in_ok-language.language.grammar in
+    let setting = setting_of c.in_ok-language.language in
     let made = c.in_ok-made.ensures.made in
     let old = g.K.Sink.written c.args.out.now in
     let new = g.K.Sink.written c.print-outcome.new.out in
-    makes_told _ _ _ _ _ old new of c.in_ok-language.ensures.holds c.in_ok-language.ensures.clear
-    (c.one_summary.ensures of (one_way of c.args.root.k c.in_ok-language.ensures.clear) c.args.count) _ made.0 _ made.1 made.2 c.print-outcome.result c.print-outcome.ensures.verdict
+    makes_told _ _ _ _ _ old new setting c.in_ok-language.ensures.holds c.in_ok-language.ensures.clear
+    (c.one_summary.ensures setting (one_way setting.grammar c.args.root.k c.in_ok-language.ensures.clear) c.args.count) _ made.0 _ made.1 made.2 c.print-outcome.result c.print-outcome.ensures.verdict
     (subst (λ text. OnOk c.print-outcome.result (Appends old new text)) c.in_ok-lines.ensures c.print-outcome.ensures.whole) c.print-outcome.ensures.fault
     (subst (λ text. OnErr c.print-outcome.result (WritesFront old new text)) c.in_ok-lines.ensures c.print-outcome.ensures.front)
 

@@ -6,29 +6,30 @@ use Rattle.lw_commands.proofs.Conversing.{conversed_from, counts_of, works_told,
 use Rattle.lw_commands.proofs.Ends.{unasked}
 use Rattle.lw_commands.proofs.Grammars.{one_session}
 use Rattle.lw_commands.proofs.serve.serve.Goals as goal
+use Rattle.lw_lang.specs.Language.{setting_of}
 
 pub new-requires : goal.new-requires
 new-requires g c = one_way c.in_ok-language.language.grammar c.args.root.k c.in_ok-language.ensures.clear
 
 pub returns-in_err-load_named-clause-works : goal.returns-in_err-load_named-clause-works
 returns-in_err-load_named-clause-works g c =
-    let of = c.in_ok-language.language.grammar in
-    let one_way_of = one_way of c.args.root.k c.in_ok-language.ensures.clear in
+    let setting = setting_of c.in_ok-language.language in
+    let one_way_of = one_way setting.grammar c.args.root.k c.in_ok-language.ensures.clear in
     let paths = map (λ path. path.now) c.args.paths.now in
     let unread = subst (λ told. StopsAtFile told paths c.in_err-load_named.field-0.0) c.in_ok-language.ensures.files c.in_err-load_named.ensures.unread in
-    works_unread _ c.args.root.path.now paths c.args.root.k _ _ _ _ of c.in_ok-language.ensures.holds c.in_ok-language.ensures.clear
-    (one_session of (c.one_outcome.ensures.reads of one_way_of) (c.one_outcome.ensures.files of one_way_of)) c.in_err-load_named.field-0.0
+    works_unread _ c.args.root.path.now paths c.args.root.k _ _ _ _ setting c.in_ok-language.ensures.holds c.in_ok-language.ensures.clear
+    (one_session setting (c.one_outcome.ensures.reads setting one_way_of) (c.one_outcome.ensures.files setting one_way_of)) c.in_err-load_named.field-0.0
     c.from_residual-in_err-load_named.result unread c.from_residual-in_err-load_named.ensures.1
 
 pub returns-clause-works : goal.returns-clause-works
 returns-clause-works g c =
-    let of = c.in_ok-language.language.grammar in
-    let one_way_of = one_way of c.args.root.k c.in_ok-language.ensures.clear in
+    let setting = setting_of c.in_ok-language.language in
+    let one_way_of = one_way setting.grammar c.args.root.k c.in_ok-language.ensures.clear in
     let paths = map (λ path. path.now) c.args.paths.now in
     let loaded = c.in_ok-load_named.ensures.loaded in
     let are = subst (λ told. IfSome told (λ files. AreFileTexts files paths loaded.0)) c.in_ok-language.ensures.files loaded.2 in
-    works_told _ c.args.root.path.now paths c.args.root.k _ _ _ _ _ _ of c.load_named.new.session.setting c.in_ok-language.ensures.holds c.in_ok-language.ensures.clear
-    (one_session of (c.one_outcome.ensures.reads of one_way_of) (c.one_outcome.ensures.files of one_way_of)) loaded.0 are c.converse-outcome.result
+    works_told _ c.args.root.path.now paths c.args.root.k _ _ _ _ _ _ setting c.load_named.new.session.setting c.in_ok-language.ensures.holds c.in_ok-language.ensures.clear
+    (one_session setting (c.one_outcome.ensures.reads setting one_way_of) (c.one_outcome.ensures.files setting one_way_of)) loaded.0 are c.converse-outcome.result
     (c.in_ok-load_named.ensures.setting ∙ c.in_ok-session.ensures.setting)
     (conversed_from _ _ _ _ _ _ _ _ _ _ _ c.converse-outcome.result (c.in_ok-load_named.ensures.files ∙ c.in_ok-language.ensures.files)
     (c.in_ok-load_named.ensures.store ∙ c.in_ok-language.ensures.store) (c.converse-outcome.ensures.conversed loaded.0 loaded.1))

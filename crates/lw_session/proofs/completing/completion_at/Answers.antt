@@ -14,6 +14,7 @@ use Rattle.lw_session.specs.Completing.{IsItemTold, TakesWord}
 use Rattle.lw_session.proofs.Asked.{none_held}
 use Rattle.lw_session.proofs.Offered.{same_text, take_words, tells_offers}
 use Rattle.lw_session.proofs.completing.completion_at.Goals as goal
+use Rattle.lw_lang.specs.Language.{setting_of}
 
 pub returns-in_default : goal.returns-in_default
 returns-in_default c =
@@ -38,9 +39,9 @@ returns c =
     let (trees, are_trees, is_index) = c.index.ensures.trees c.requires in
     let number = subst (λ (d : DocId). IsNumberAt c.index.result.now d.0 c.args.address.now) (sym is.number)
     (c.index.ensures.numbers c.args.address.now is.held is.here) in
-    let of = c.language.result.now.grammar in
+    let setting = setting_of c.language.result.now in
     let are = c.in_ok-offered.ensures.offers (present_texts (documents v)) trees c.args.address.now
     (subst (λ (g : Grammar). AreTreesOfTexts g (present_texts (documents v)) trees) (sym c.language.ensures) are_trees) is_index number in
-    tells_offers v of c.language.ensures c.args.address.now c.args.at c.in-Some.asked is text same items told are c.in_ok-offered.ensures.spans
+    tells_offers v setting c.language.ensures c.args.address.now c.args.at c.in-Some.asked is text same items told are c.in_ok-offered.ensures.spans
     (subst (λ (t : List ℕ). AllZip (IsItemTold t) items told) (sym c.as_name.ensures.text)
     (subst (λ (is : List Item). AllZip (IsItemTold c.in-Some-text_of.text.now) is told) c.as_slice.ensures.value c.in_ok-items.ensures))

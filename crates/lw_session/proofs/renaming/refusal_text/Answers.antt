@@ -12,7 +12,7 @@ use Rattle.lw_session.proofs.renaming.refusal_text.Goals as goal
 pub returns-in-NoName-clause-told : goal.returns-in-NoName-clause-told
 returns-in-NoName-clause-told c told tells =
     let texts = present_texts_of c.args.workspace.now.kept in
-    let of = c.args.workspace.now.setting in
+    let of = c.args.workspace.now.setting.grammar in
     IfOk-weaker c.from_text.result _ _
     (λ text is.
     subst (λ r. IsRefusalText of texts r text) (sym (tells_no_name c.args.fault told tells c.in-NoName.is))
@@ -22,7 +22,7 @@ returns-in-NoName-clause-told c told tells =
 pub returns-in-NotParsed-clause-told : goal.returns-in-NotParsed-clause-told
 returns-in-NotParsed-clause-told c told tells =
     let texts = present_texts_of c.args.workspace.now.kept in
-    let of = c.args.workspace.now.setting in
+    let of = c.args.workspace.now.setting.grammar in
     let says : c.from_string.result ≡ codes "The new name can't be read in " ++ c.in-NotParsed.uri ++ codes "." = search rules in
     subst (λ r. IsRefusalText of texts r c.from_string.result) (sym (tells_not_parsed c.args.fault told tells c.in-NotParsed.uri c.in-NotParsed.is))
     (subst (IsRefusalText of texts (refusal.NotParsed c.in-NotParsed.uri)) (sym says) tell.not_parsed)
@@ -30,7 +30,7 @@ returns-in-NotParsed-clause-told c told tells =
 pub returns-in-Shape-clause-told : goal.returns-in-Shape-clause-told
 returns-in-Shape-clause-told c told tells =
     let texts = present_texts_of c.args.workspace.now.kept in
-    let of = c.args.workspace.now.setting in
+    let of = c.args.workspace.now.setting.grammar in
     let says : c.from_string-in-Shape.result ≡ codes "The new name changes the structure of " ++ c.in-Shape.uri ++ codes "." = search rules in
     subst (λ r. IsRefusalText of texts r c.from_string-in-Shape.result) (sym (tells_shape c.args.fault told tells c.in-Shape.uri c.in-Shape.field-1 c.in-Shape.is))
     (subst (IsRefusalText of texts (refusal.Shape c.in-Shape.uri c.in-Shape.field-1.0)) (sym says) tell.shape)
@@ -38,7 +38,7 @@ returns-in-Shape-clause-told c told tells =
 pub returns-in-Rebound-clause-told : goal.returns-in-Rebound-clause-told
 returns-in-Rebound-clause-told c told tells =
     let texts = present_texts_of c.args.workspace.now.kept in
-    let of = c.args.workspace.now.setting in
+    let of = c.args.workspace.now.setting.grammar in
     let fault = c.in-Rebound in
     let stands = subst (IsPlacedFault of texts) fault.is c.requires in
     IfOk-weaker c.rebound_text.result _ _

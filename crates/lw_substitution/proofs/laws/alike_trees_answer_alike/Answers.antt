@@ -1,7 +1,7 @@
-use Rattle.lw_substitution.proofs.Linked.{looks_tell_sight}
 use Rattle.lw_substitution.proofs.Targeted.{target_both, visible_too}
 use Rattle.lw_link_rules.specs.Links.{rules_of}
 use Rattle.lw_substitution.proofs.laws.alike_trees_answer_alike.Goals as goal
+use Rattle.lw_substitution.proofs.Linked.{looks_tell_sight}
 
 pub returns : goal.returns
 returns c = record {

@@ -2,7 +2,7 @@ use Rattle.std.proofs.Common.{List, Option, option_and_then, option_map, Result,
 use Rattle.std.proofs.lemmas.Result.{on_ok_weaker}
 use Rattle.lw_docs.specs.Documents.{Numbered, numbered}
 use Rattle.lw_index.specs.declared.parts.Answer.{Answer}
-use Rattle.lw_link_rules.specs.Links.{IsNumberBelow}
+use Rattle.lw_link_rules.specs.Links.{rules_of}
 use Rattle.lw_tree.specs.Parts.{Parts}
 use Rattle.lw_build.specs.Linked.{AreLinkAnswers, AreLinksKept, IsIndexedAt, StandsNumbered}
 use Rattle.lw_build.specs.Readings.{present_texts_of, tree_numbered, tree_of, trees_of}
@@ -13,6 +13,7 @@ use Rattle.lw_build.proofs.Linked.{indexed_stands, stand_elsewhere, stands_numbe
 use Rattle.lw_build.proofs.Sparing.{stands_still}
 use Rattle.lw_build.proofs.Trees.{are_trees, is_document, is_index}
 use Rattle.lw_build.proofs.telling.News.add_one.Goals as goal
+use Rattle.lw_lang.specs.Language.{setting_of}
 
 -- what holds is so where nothing fails
 so : {A E : Type 0} {Q : Type 0} (r : Result A E) → Q → OnOk r Q
@@ -35,22 +36,22 @@ returns-clause-others g c =
 
 pub returns-clause-linked : goal.returns-clause-linked
 returns-clause-linked g c =
-    let of = c.args.language.now.grammar in
+    let setting = setting_of c.args.language.now in
     let texts = c.args.language.now.texts in
     let docs = c.args.docs.now in
     let readings = c.args.readings.now in
     let doc = c.doc-doc.result.now in
     let is = sym c.in-Some.ensures.value in
-    let here = is_document of texts docs c.numbered.ensures readings c.requires.read c.requires.all c.args.d doc c.doc-doc.ensures c.in-Some.reading.now is in
+    let here = is_document setting.grammar texts docs c.numbered.ensures readings c.requires.read c.requires.all c.args.d doc c.doc-doc.ensures c.in-Some.reading.now is in
     let found = c.in_ok-found-in-Some.ensures.checked (present_texts_of docs) (trees_of docs readings) doc.uri
-    (are_trees of texts docs c.numbered.ensures readings c.requires.read c.requires.all)
-    (is_index of texts docs c.numbered.ensures readings c.requires.read c.requires.all) (ap (option_map (λ (h : Numbered). h.doc.text)) c.doc-doc.ensures) here.1 in
+    (are_trees setting.grammar texts docs c.numbered.ensures readings c.requires.read c.requires.all)
+    (is_index setting.grammar texts docs c.numbered.ensures readings c.requires.read c.requires.all) (ap (option_map (λ (h : Numbered). h.doc.text)) c.doc-doc.ensures) here.1 in
     let answers = c.in_ok-found-in-Some.found.answers.items in
-    let links : AreLinksKept of docs readings c.set.new.self doc.uri c.args.d.0 =
-    subst₂ (λ (o : Option Parts) (kept : List Answer). AreLinkAnswers (IsNumberBelow of) (StandsNumbered docs) (trees_of docs readings) doc.uri o kept)
+    let links : AreLinksKept setting docs readings c.set.new.self doc.uri c.args.d.0 =
+    subst₂ (λ (o : Option Parts) (kept : List Answer). AreLinkAnswers (rules_of setting) (StandsNumbered docs) (trees_of docs readings) doc.uri o kept)
     (sym (ap (option_and_then tree_of) is))
     (sym (answers_put c.args.refs.now c.set.new.self c.args.d.0 answers c.in_ok-set-in-Some.ensures.ok))
-    (stand_elsewhere (IsNumberBelow of) (IsIndexedAt readings.index) (StandsNumbered docs) (indexed_stands of texts docs readings c.requires.read)
+    (stand_elsewhere (rules_of setting) (IsIndexedAt readings.index) (StandsNumbered docs) (indexed_stands setting texts docs readings c.requires.read)
     (trees_of docs readings) doc.uri (tree_of c.in-Some.reading.now) answers found.1) in
     so c.add.result (doc, c.doc-doc.ensures, links)
 
@@ -71,30 +72,30 @@ returns-clause-told g c =
 -- what is spared stands as it was built
 pub returns-then-spares-clause-linked : goal.returns-then-spares-clause-linked
 returns-then-spares-clause-linked g c =
-    let of = c.args.language.now.grammar in
+    let setting = setting_of c.args.language.now in
     let docs = c.args.docs.now in
     let readings = c.args.readings.now in
     let doc = c.doc-doc.result.now in
     let (start, since, waits) = c.requires.stands in
-    let still = stands_still of docs c.numbered.ensures readings start c.args.standing.now since c.args.language.now.texts c.requires.read c.requires.all c.requires.entered
+    let still = stands_still setting docs c.numbered.ensures readings start c.args.standing.now since c.args.language.now.texts c.requires.read c.requires.all c.requires.entered
     (numbered c.args.d doc) c.doc-doc.ensures (c.spares.ensures.untouched c.if-spares.true) c.in-Some.reading.now (sym c.in-Some.ensures.value)
     (subst (NamesNoChange c.args.standing.now c.in-Some.reading.now) c.of.ensures (c.spares.ensures.names c.if-spares.true)) in (
       doc,
       c.doc-doc.ensures,
       elim waits [
         | inl same ↦ subst (λ (answers : List Answer).
-            AreLinkAnswers (IsNumberBelow of) (StandsNumbered docs) (trees_of docs readings) doc.uri (tree_numbered readings c.args.d.0) answers) (sym same) still.links
+            AreLinkAnswers (rules_of setting) (StandsNumbered docs) (trees_of docs readings) doc.uri (tree_numbered readings c.args.d.0) answers) (sym same) still.links
         | inr linked ↦ linked doc.uri (stands_numbered docs doc.uri (numbered c.args.d doc) c.doc-doc.ensures)
       ],
     )
 
 pub returns-then-spares-clause-told : goal.returns-then-spares-clause-told
 returns-then-spares-clause-told g c =
-    let of = c.args.language.now.grammar in
+    let setting = setting_of c.args.language.now in
     let docs = c.args.docs.now in
     let doc = c.doc-doc.result.now in
     let (start, since, waits) = c.requires.stands in
-    let still = stands_still of docs c.numbered.ensures c.args.readings.now start c.args.standing.now since c.args.language.now.texts c.requires.read c.requires.all c.requires.entered
+    let still = stands_still setting docs c.numbered.ensures c.args.readings.now start c.args.standing.now since c.args.language.now.texts c.requires.read c.requires.all c.requires.entered
     (numbered c.args.d doc) c.doc-doc.ensures (c.spares.ensures.untouched c.if-spares.true) c.in-Some.reading.now (sym c.in-Some.ensures.value)
     (subst (NamesNoChange c.args.standing.now c.in-Some.reading.now) c.of.ensures (c.spares.ensures.names c.if-spares.true)) in
     (still.list, doc, c.doc-doc.ensures, still.listed, telling.same still.published refl refl)

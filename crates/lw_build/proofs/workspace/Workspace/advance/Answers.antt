@@ -20,12 +20,12 @@ use Rattle.lw_lang.specs.Language.{setting_of}
 
 pub returns-then-self-clause-builds : goal.returns-then-self-clause-builds
 returns-then-self-clause-builds g c =
-    let of = c.self.inside.language.grammar in
+    let setting = setting_of c.self.inside.language in
     let docs = c.self.inside.docs in
     subst (λ v. (m : Documents) → Agrees v m → BuildsToEnd v.setting m (documents v) c.new.result) c.self.view_is
-    (subst (λ b. (m : Documents) → Agrees (view of docs b) m → BuildsToEnd of m (documents_of b docs) c.new.result) (sym c.if-self.true)
-    (λ m agrees. subst (BuildsToEnd of m (documents_of true docs)) (sym c.new.ensures)
-    (stays_built of c.self.invariant.one_way c.types.result.now c.types.ensures docs (c.self.invariant.built c.if-self.true) m agrees)))
+    (subst (λ b. (m : Documents) → Agrees (view setting docs b) m → BuildsToEnd setting m (documents_of b docs) c.new.result) (sym c.if-self.true)
+    (λ m agrees. subst (BuildsToEnd setting m (documents_of true docs)) (sym c.new.ensures)
+    (stays_built setting c.self.invariant.one_way c.types.result.now c.types.ensures docs (c.self.invariant.built c.if-self.true) m agrees)))
 
 pub news_of-found-requires-clause-unread : goal.news_of-found-requires-clause-unread
 news_of-found-requires-clause-unread g c =
@@ -96,38 +96,38 @@ invariant_of-self-in_default g c = record {
 
 pub invariant_of-self-2 : goal.invariant_of-self-2
 invariant_of-self-2 g c =
-    let of = c.self.inside.language.grammar in
+    let setting = setting_of c.self.inside.language in
     let texts = c.self.inside.language.texts in
     let docs = c.self.inside.docs in
     let after = c.take_all.new.docs in
     let own = c.in-Ok.news.own.items in
-    let read = read_taken own docs after c.take_all.ensures of texts c.read_all.new.self c.in_ok-read_all.ensures.kept in
-    let links = linked_taken own docs after c.take_all.ensures of c.read_all.new.self c.news_of-found.new.refs
-    (subst (λ r. OnOk r (AreLinked of docs c.read_all.new.self c.news_of-found.new.refs)) c.in-Ok.is c.news_of-found.ensures.linked) in
-    let current_now = current own docs after c.take_all.ensures of c.self.invariant.numbered c.in-Ok.news.lists
+    let read = read_taken own docs after c.take_all.ensures setting texts c.read_all.new.self c.in_ok-read_all.ensures.kept in
+    let links = linked_taken own docs after c.take_all.ensures setting c.read_all.new.self c.news_of-found.new.refs
+    (subst (λ r. OnOk r (AreLinked setting docs c.read_all.new.self c.news_of-found.new.refs)) c.in-Ok.is c.news_of-found.ensures.linked) in
+    let current_now = current own docs after c.take_all.ensures setting c.self.invariant.numbered c.in-Ok.news.lists
     (subst (λ r. IfOk r (λ news. AreListsTold (setting_of c.self.inside.language) c.self.inside.docs (numbered_places c.self.inside.docs) news.own.items news.lists)) c.in-Ok.is c.news_of-found.ensures.told) in
     record {
       one_way = c.self.invariant.one_way;
       numbered = c.numbered.ensures;
       read = read;
       unread = c.news_of-found.ensures.unread;
-      stands = settled of c.self.invariant.one_way texts after c.numbered.ensures c.read_all.new.self read c.news_of-found.new.refs links current_now c.settle.new.self c.settle.ensures;
+      stands = settled setting c.self.invariant.one_way texts after c.numbered.ensures c.read_all.new.self read c.news_of-found.new.refs links current_now c.settle.new.self c.settle.ensures;
       linked = λ is. links;
       built = λ is. record {
         current = current_now;
-        readable = readable_taken own docs after c.take_all.ensures of
-            (are_readable of texts docs c.self.invariant.numbered c.read_all.new.self c.in_ok-read_all.ensures.kept c.in_ok-read_all.ensures.all);
+        readable = readable_taken own docs after c.take_all.ensures setting
+            (are_readable setting.grammar texts docs c.self.invariant.numbered c.read_all.new.self c.in_ok-read_all.ensures.kept c.in_ok-read_all.ensures.all);
       };
     }
 
 pub returns-clause-builds : goal.returns-clause-builds
 returns-clause-builds g c =
-    let of = c.self.inside.language.grammar in
+    let setting = setting_of c.self.inside.language in
     let texts = c.self.inside.language.texts in
     let docs = c.self.inside.docs in
     let after = c.take_all.new.docs in
     let lists = c.in-Ok.news.lists in
     subst (λ v. (m : Documents) → Agrees v m → BuildsToEnd v.setting m (documents_of true after) lists) c.self.view_is
-    (builds c.in-Ok.news.own.items docs after c.take_all.ensures of c.self.invariant.numbered lists (subst (λ r. IfOk r (λ news. AreListsTold (setting_of c.self.inside.language) c.self.inside.docs (numbered_places c.self.inside.docs) news.own.items news.lists)) c.in-Ok.is c.news_of-found.ensures.told) c.self.invariant.one_way c.types.result.now
-    c.types.ensures (are_readable of texts docs c.self.invariant.numbered c.read_all.new.self c.in_ok-read_all.ensures.kept c.in_ok-read_all.ensures.all)
+    (builds c.in-Ok.news.own.items docs after c.take_all.ensures setting c.self.invariant.numbered lists (subst (λ r. IfOk r (λ news. AreListsTold (setting_of c.self.inside.language) c.self.inside.docs (numbered_places c.self.inside.docs) news.own.items news.lists)) c.in-Ok.is c.news_of-found.ensures.told) c.self.invariant.one_way c.types.result.now
+    c.types.ensures (are_readable setting.grammar texts docs c.self.invariant.numbered c.read_all.new.self c.in_ok-read_all.ensures.kept c.in_ok-read_all.ensures.all)
     c.self.inside.is_built)

@@ -15,6 +15,7 @@ use Rattle.lw_build.specs.declared.fault.WorkFault.TheVariants.{NoDocument}
 use Rattle.lw_build.proofs.Agreeing.{edited_so}
 use Rattle.lw_build.proofs.Finding.{are_made, at_address, edit_refused, none_found, same_uri, seen}
 use Rattle.lw_build.proofs.workspace.Workspace.edit.Goals as goal
+use Rattle.lw_lang.specs.Language.{setting_of}
 
 pub returns-in_default-clause-fault : goal.returns-in_default-clause-fault
 returns-in_default-clause-fault c =
@@ -35,7 +36,7 @@ change-requires c = subst (λ (v : WorkspaceView). IsHeld v.kept c.in-Some.d) c.
 
 pub returns-clause-agrees : goal.returns-clause-agrees
 returns-clause-agrees c =
-    let of = c.self.inside.language.grammar in
+    let setting = setting_of c.self.inside.language in
     let docs = c.self.inside.docs in
     let x = c.doc-doc.result.now in
     let is = sym c.in-Some.is ∙ c.find.ensures.number in
@@ -52,12 +53,12 @@ returns-clause-agrees c =
     subst (λ v. (m : Documents) → Agrees v m → (d : Document) × (t : List ℕ) × (get m c.args.uri.now ≡ Some d) × Changes Utf16 d.text changes (Ok t) ×
     Agrees c.change.new.self (all.insert m c.args.uri.now (edited d t c.args.version))) c.self.view_is
     (λ m agrees.
-    let (d, there, same, after) = edited_so of c.self.invariant.one_way docs c.self.inside.is_built c.change.new.self.is_built m agrees c.args.uri.now c.in-Some.d x changes
+    let (d, there, same, after) = edited_so setting c.self.invariant.one_way docs c.self.inside.is_built c.change.new.self.is_built m agrees c.args.uri.now c.in-Some.d x changes
     c.args.version text at (λ d same. subst (λ t. AreMade Utf16 t changes text) (sym same) (are_made x.text changes text done)) in (
       d,
       text,
       there,
       subst (λ t. Changes Utf16 t changes (Ok text)) (sym same) done,
-      seen c.change.new.self of (all.insert docs c.args.uri.now now) (all.insert m c.args.uri.now (edited d text c.args.version)) grammar
+      seen c.change.new.self setting (all.insert docs c.args.uri.now now) (all.insert m c.args.uri.now (edited d text c.args.version)) grammar
           (turns x c.doc-doc.ensures ∙ ap (λ (u : List ℕ). all.insert docs u now) uri) after,
     ))

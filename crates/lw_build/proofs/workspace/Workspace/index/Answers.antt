@@ -11,6 +11,7 @@ use Rattle.lw_build.specs.View.{WorkspaceView, documents}
 use Rattle.lw_build.proofs.Trees.{is_index, is_number_at}
 use Rattle.lw_build.proofs.Views.{present_trees}
 use Rattle.lw_build.proofs.workspace.Workspace.index.Goals as goal
+use Rattle.lw_lang.specs.Language.{setting_of}
 
 pub returns-clause-numbers : goal.returns-clause-numbers
 returns-clause-numbers c =
@@ -21,7 +22,7 @@ returns-clause-numbers c =
 
 pub returns-clause-trees : goal.returns-clause-trees
 returns-clause-trees c =
-    let of = c.self.inside.language.grammar in
+    let setting = setting_of c.self.inside.language in
     let texts = c.self.inside.language.texts in
     let docs = c.self.inside.docs in
     let readings = c.self.inside.readings in
@@ -29,6 +30,6 @@ returns-clause-trees c =
     c.self.view_is
     (λ is. (
       trees_of docs readings,
-      present_trees of texts docs c.self.invariant.numbered readings c.self.invariant.read c.self.inside.is_built (c.self.invariant.linked is).read,
-      is_index of texts docs c.self.invariant.numbered readings c.self.invariant.read (c.self.invariant.linked is).read,
+      present_trees setting texts docs c.self.invariant.numbered readings c.self.invariant.read c.self.inside.is_built (c.self.invariant.linked is).read,
+      is_index setting.grammar texts docs c.self.invariant.numbered readings c.self.invariant.read (c.self.invariant.linked is).read,
     ))

@@ -12,6 +12,7 @@ use Rattle.lw_build.proofs.Agreeing.{put_again, put_new}
 use Rattle.lw_base.specs.declared.limits.TheConstants.{LONGEST_TEXT}
 use Rattle.lw_build.proofs.Finding.{found, not_above, is_held, none_found, not_added, put_refused, seen}
 use Rattle.lw_build.proofs.workspace.Workspace.put.Goals as goal
+use Rattle.lw_lang.specs.Language.{setting_of}
 
 pub returns-in-Err-clause-fault : goal.returns-in-Err-clause-fault
 returns-in-Err-clause-fault c =
@@ -25,7 +26,7 @@ change-requires c =
 
 pub returns-in-Some-clause-agrees : goal.returns-in-Some-clause-agrees
 returns-in-Some-clause-agrees c =
-    let of = c.self.inside.language.grammar in
+    let setting = setting_of c.self.inside.language in
     let docs = c.self.inside.docs in
     let uri = c.args.uri.now in
     let is = sym c.in-Some.is ∙ c.find.ensures.number in
@@ -37,13 +38,13 @@ returns-in-Some-clause-agrees c =
     (λ y. record y { text = c.in-Ok.text; version = c.args.version; is_open = c.args.is_open })) (sym c.self.view_is) c.change.ensures.kept in
     subst (λ v. (m : Documents) → Agrees v m → Agrees c.change.new.self (put m uri c.args.text c.args.version c.args.is_open)) c.self.view_is
     (λ m agrees. subst (λ (t : List ℕ). Agrees c.change.new.self (put m uri t c.args.version c.args.is_open)) c.in-Ok.ensures.text
-    (seen c.change.new.self of (all.insert docs uri now) (put m uri c.in-Ok.text c.args.version c.args.is_open) grammar
+    (seen c.change.new.self setting (all.insert docs uri now) (put m uri c.in-Ok.text c.args.version c.args.is_open) grammar
     (turns x at_uri ∙ ap (λ (u : List ℕ). all.insert docs u now) (c.self.invariant.numbered.addresses uri (numbered c.in-Some.d x) at))
-    (put_again of c.self.invariant.one_way docs c.self.inside.is_built c.change.new.self.is_built m agrees uri c.in-Ok.text c.args.version c.args.is_open c.in-Some.d x at)))
+    (put_again setting c.self.invariant.one_way docs c.self.inside.is_built c.change.new.self.is_built m agrees uri c.in-Ok.text c.args.version c.args.is_open c.in-Some.d x at)))
 
 pub returns-in-None-clause-agrees : goal.returns-in-None-clause-agrees
 returns-in-None-clause-agrees c =
-    let of = c.self.inside.language.grammar in
+    let setting = setting_of c.self.inside.language in
     let docs = c.self.inside.docs in
     let uri = c.args.uri.now in
     let none = none_found docs uri (sym c.in-None.is ∙ c.find.ensures.number) in
@@ -51,9 +52,9 @@ returns-in-None-clause-agrees c =
     on_ok_weaker c.add.result
     (λ (d, kept). subst (λ v. (m : Documents) → Agrees v m → Agrees c.add.new.self (put m uri c.args.text c.args.version c.args.is_open)) c.self.view_is
     (λ m agrees. subst (λ (t : List ℕ). Agrees c.add.new.self (put m uri t c.args.version c.args.is_open)) c.in-Ok.ensures.text
-    (seen c.add.new.self of (all.insert docs uri (numbered d (changed uri c.in-Ok.text c.args.version c.args.is_open))) (put m uri c.in-Ok.text c.args.version c.args.is_open)
+    (seen c.add.new.self setting (all.insert docs uri (numbered d (changed uri c.in-Ok.text c.args.version c.args.is_open))) (put m uri c.in-Ok.text c.args.version c.args.is_open)
     grammar (kept ∙ ap (λ (v : WorkspaceView). all.insert v.kept uri (numbered d (changed uri c.in-Ok.text c.args.version c.args.is_open))) (sym c.self.view_is))
-    (put_new of c.self.invariant.one_way docs c.self.inside.is_built c.add.new.self.is_built m agrees uri c.in-Ok.text c.args.version c.args.is_open d uri none))))
+    (put_new setting c.self.invariant.one_way docs c.self.inside.is_built c.add.new.self.is_built m agrees uri c.in-Ok.text c.args.version c.args.is_open d uri none))))
     c.add.ensures.kept
 
 pub returns-in-None-clause-fault : goal.returns-in-None-clause-fault

@@ -52,19 +52,19 @@ invariant_of-self c =
 
 pub returns-clause-agrees : goal.returns-clause-agrees
 returns-clause-agrees c =
-    let of = c.self.inside.language.grammar in
+    let setting = setting_of c.self.inside.language in
     let docs = c.self.inside.docs in
     let x = c.take_out.result in
     let is = sym c.in-Some.is ∙ c.find.ensures.number in
     let uri = same_uri docs c.args.uri.now c.self.invariant.numbered c.in-Some.gone is x c.take_out.ensures.doc in
     let at = at_address docs c.args.uri.now c.self.invariant.numbered c.in-Some.gone is x c.take_out.ensures.doc in
     subst (λ v. (m : Documents) → Agrees v m →
-    (n : Documents) × IsSettled v.setting (shown_texts m) c.args.uri.now (all.remove m c.args.uri.now) n × Agrees (view of c.take_out.new.self false) n) c.self.view_is
+    (n : Documents) × IsSettled v.setting (shown_texts m) c.args.uri.now (all.remove m c.args.uri.now) n × Agrees (view setting c.take_out.new.self false) n) c.self.view_is
     (λ m agrees.
-    let tells = tells_types of c.types.result.now.types.subtypes c.types.ensures.types.subtypes in
-    let (n, settled) = others_settle of tells m agrees.valid agrees.readable c.args.uri.now in (
+    let tells = tells_types setting.grammar c.types.result.now.types.subtypes c.types.ensures.types.subtypes in
+    let (n, settled) = others_settle setting tells m agrees.valid agrees.readable c.args.uri.now in (
       n,
       settled,
-      seen (view of c.take_out.new.self false) of (all.remove docs c.args.uri.now) n refl (c.take_out.ensures.gone ∙ ap (all.remove docs) uri)
-          (removed of c.self.invariant.one_way docs c.self.inside.is_built false m agrees c.args.uri.now (numbered c.in-Some.gone x) at n settled),
+      seen (view setting c.take_out.new.self false) setting (all.remove docs c.args.uri.now) n refl (c.take_out.ensures.gone ∙ ap (all.remove docs) uri)
+          (removed setting c.self.invariant.one_way docs c.self.inside.is_built false m agrees c.args.uri.now (numbered c.in-Some.gone x) at n settled),
     ))

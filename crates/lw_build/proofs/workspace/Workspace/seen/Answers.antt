@@ -2,7 +2,7 @@ use Rattle.std.proofs.Common.{ℕ, Option, ap, sym, subst, ◌∙◌}
 use Rattle.lw_machine.specs.Documents.{present_texts}
 use Rattle.lw_query.specs.Viewed.{AreViewsOf}
 use Rattle.lw_index.specs.Led.{answers_in}
-use Rattle.lw_link_rules.specs.Links.{AreTreesOfTexts, IsNumberBelow, rules_of}
+use Rattle.lw_link_rules.specs.Links.{AreTreesOfTexts, rules_of}
 use Rattle.lw_scoping.specs.Links.{Trees}
 use Rattle.lw_build.specs.Linked.{StandsNumbered}
 use Rattle.lw_tree.specs.Parts.{Parts}
@@ -23,14 +23,14 @@ invariant_of-result c =
 pub returns-clause-views : goal.returns-clause-views
 returns-clause-views c =
     let is = ap (λ (v : WorkspaceView). v.is_built) c.self.view_is ∙ c.requires.built in
-    let of = c.self.inside.language.grammar in
+    let setting = setting_of c.self.inside.language in
     let docs = c.self.inside.docs in
     let readings = c.self.inside.readings in
     let linked = c.self.invariant.linked is in
     subst (λ (v : WorkspaceView). (trees : Trees) × AreTreesOfTexts v.setting.grammar (present_texts (documents v)) trees ×
     AreViewsOf (rules_of v.setting) (seen_tree (lent docs readings c.self.inside.refs)) (answers_in c.self.inside.refs) (StandsNumbered docs) trees) c.self.view_is (
       trees_of docs readings,
-      present_trees of c.self.inside.language.texts docs c.self.invariant.numbered readings c.self.invariant.read c.self.inside.is_built linked.read,
-      subst (λ (tree_at : ℕ → Option Parts). AreViewsOf (IsNumberBelow of) tree_at (answers_in c.self.inside.refs) (StandsNumbered docs) (trees_of docs readings))
+      present_trees setting c.self.inside.language.texts docs c.self.invariant.numbered readings c.self.invariant.read c.self.inside.is_built linked.read,
+      subst (λ (tree_at : ℕ → Option Parts). AreViewsOf (rules_of setting) tree_at (answers_in c.self.inside.refs) (StandsNumbered docs) (trees_of docs readings))
           (λ i n. sym (tree_lent docs readings c.self.inside.refs n) i) linked.views,
     )

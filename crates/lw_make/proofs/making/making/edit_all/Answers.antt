@@ -17,7 +17,7 @@ edits-init g c = record {
 
 pub edits-preserved : goal.edits-preserved
 edits-preserved g c =
-    let of = c.args.workspace.now.setting in
+    let setting = c.args.workspace.now.setting in
     let start = documents c.args.workspace.now in
     let before = documents c.edits.workspace in
     let after = documents c.edit_one.new.workspace in
@@ -27,8 +27,8 @@ edits-preserved g c =
     record {
       edited = (
         lists ++ news,
-        subst (λ (numbers : List ℕ). AreEdited of start numbers after (lists ++ news)) (sym (range_more number))
-            (edited_further of start before after (range_with_len 0 number) (number ∷ []) lists news edited
+        subst (λ (numbers : List ℕ). AreEdited setting start numbers after (lists ++ news)) (sym (range_more number))
+            (edited_further setting start before after (range_with_len 0 number) (number ∷ []) lists news edited
             (subst (λ (x : Setting). AreEdited x before (number ∷ []) after news) c.edits.invariant.setting one)),
         omega (arith, counted, told, c.in_ok-published.ensures, length-append lists news),
       );
