@@ -23,9 +23,9 @@ returns-clause-made g c =
     let end = documents c.edit_all.new.workspace in
     let before = c.in_ok-advance.field-0 in
     let (behind, edited, counted) = c.in_ok-published.ensures.edited in
-    let first : c.put_all.new.workspace.setting ≡ of = c.in_ok-put_all.ensures.setting.grammar ∙ c.new-workspace.ensures.setting in
-    let second : c.advance.new.self.setting ≡ of = c.in_ok-advance.ensures.setting.grammar ∙ first in
-    let third : c.edit_all.new.workspace.setting ≡ of = c.in_ok-published.ensures.setting.grammar ∙ second in
+    let first : c.put_all.new.workspace.setting ≡ of = c.in_ok-put_all.ensures.setting ∙ c.new-workspace.ensures.setting in
+    let second : c.advance.new.self.setting ≡ of = c.in_ok-advance.ensures.setting ∙ first in
+    let third : c.edit_all.new.workspace.setting ≡ of = c.in_ok-published.ensures.setting ∙ second in
     let lists : c.len-2.result ≡ length before = search rules in (
       before ++ behind,
       record {
