@@ -558,7 +558,7 @@ def edits(when, only):
         head, _, rest = block.partition("\n")
         old, _, new = rest.partition("\n====\n")
         new = new[:-1] if new.endswith("\n") else new
-        if only and head.split("/")[1] not in only: continue
+        if only and (head.split("/") + [""])[1] not in only: continue
         file = os.path.join(TOP, head.strip())
         text = open(file, encoding="utf-8").read() if os.path.exists(file) else ""
         if old.startswith("use "):

@@ -396,7 +396,7 @@ impl Workspace {
 
     /// Its language.
     pub fn language(&self) -> &Language
-        ensures { result.now.setting ≡ self.now.setting }
+        ensures { setting_of result.now ≡ self.now.setting }
     {
         &self.language
     }

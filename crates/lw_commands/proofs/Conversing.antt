@@ -223,7 +223,7 @@ stops_unanswered setting told s body count written (Err f) same = subst (StopsRe
 
 module _ (files : Files) (path : List ℕ) (paths : List (List ℕ)) (k : ℕ) (refused before after old new : Option (List ℕ)) (count : ℕ × ℕ) (setting : Setting) (holds : HoldsGrammar files path setting.grammar) (clear : IsClear setting.grammar k)
     (one : HasOneOutcome files setting) where
-  of_this : (Fact : Grammar → Type 0) → Fact setting → OfGrammar files path k Fact
+  of_this : (Fact : Setting → Type 0) → Fact setting → OfGrammar files path k Fact
   of_this Fact fact = record { setting = setting; holds = holds; clear = clear; only = one; fact = fact }
 
   -- what a session of this grammar over the texts of these files came to is what the work answered

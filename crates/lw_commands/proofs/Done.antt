@@ -33,7 +33,7 @@ use Rattle.lw_commands.specs.declared.named.FileFault.TheVariants as file
 use Rattle.lw_commands.specs.Stops.{EndsWith, TheSource, TheSink, TheStore}
 use Rattle.lw_commands.proofs.Ends.{CountsAll, if_told, only_memory}
 use Rattle.lw_lang.proofs.OneWay.{one_way}
-use Rattle.lw_commands.proofs.Grammars.{same_accepted}
+use Rattle.lw_commands.proofs.Grammars.{same_setting}
 use Rattle.lw_commands.proofs.NoneFailed.{none_failed}
 use Rattle.lw_commands.proofs.NamedTexts.{same_named, no_unread, not_absent, not_bytes, not_long_text}
 
@@ -167,9 +167,9 @@ module _ (files : Files) (path : List ℕ) (paths : List (List ℕ)) (k : ℕ) (
     (accepted : IsAccepted files path k setting.grammar) (settled : AreSettledByFiles setting) (none : NoneRose faults) (named : List (List ℕ × List ℕ)) (are : AreFileTexts files paths named)
     (taken : List ℕ) (is : IsSession held taken) where
   -- a fact of the session over the texts that the files hold is one of this session
-  fact_of : (P : Grammar → List (List ℕ × List ℕ) → Type 0) → OfGrammar files path k (λ setting. WithNamed files paths (P setting)) → P setting named
+  fact_of : (P : Setting → List (List ℕ × List ℕ) → Type 0) → OfGrammar files path k (λ setting. WithNamed files paths (P setting)) → P setting named
   fact_of P o =
-      let fact = subst (λ h. WithNamed files paths (P h)) (same_accepted files path k setting.grammar accepted o.setting.grammar o.holds) o.fact in
+      let fact = subst (λ h. WithNamed files paths (P h)) (same_setting files path k setting accepted o.setting o.holds) o.fact in
       subst (P setting) (same_named files paths fact.0 named fact.1 are) fact.2
 
   -- none of the files is unread, unless the store failed

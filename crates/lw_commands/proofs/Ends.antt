@@ -36,7 +36,7 @@ use Rattle.lw_commands.specs.Checking.{CheckComesTo, CheckDone, most_read}
 use Rattle.lw_commands.specs.Run.{Faults, NoneRose, count_of, CountsRun, Work, Ends, ChecksAll}
 use Rattle.lw_commands.specs.Serving.{CountsSession}
 use Rattle.lw_commands.specs.Stops.{Object, TheSource, TheSink, TheStore, ThePatterns, Counts, EndsWith, fault_code, load_code}
-use Rattle.lw_commands.proofs.Grammars.{same_accepted}
+use Rattle.lw_commands.proofs.Grammars.{same_accepted, same_setting}
 
 -- the counts of all objects, by an outcome
 abbrev pub CountsAll : Faults → Result Verdict Stop → Type 0
@@ -111,15 +111,15 @@ module _ (files : Files) (path : List ℕ) (k : ℕ) (refused : Option (List ℕ
   pub only_memory : (found : CompileFault) → Causes files path k refused found → CountsAll faults (Err (stop.Grammar found)) → fault_code found ≡ 7
   only_memory (fault.Load found) cause counts = loaded found cause counts
   only_memory (fault.Faults told) cause counts =
-      absurd (faultless cause.1.loaded.texts told (subst (λ h. AreAllTold h.grammar cause.1.loaded.texts told) (same_accepted files path k setting.grammar accepted cause.0 cause.1) cause.2))
+      absurd (faultless cause.1.loaded.texts told (subst (λ h. AreAllTold h cause.1.loaded.texts told) (same_accepted files path k setting.grammar accepted cause.0 cause.1) cause.2))
   only_memory (fault.Term told) cause counts =
       absurd
       (with_tokens cause.1.loaded.texts told
-      (subst (λ h. HasNoTokens h.grammar cause.1.loaded.texts refused told) (same_accepted files path k setting.grammar accepted cause.0 cause.1) cause.2) counts)
+      (subst (λ h. HasNoTokens h cause.1.loaded.texts refused told) (same_accepted files path k setting.grammar accepted cause.0 cause.1) cause.2) counts)
   only_memory (fault.Look told) cause counts =
       absurd
       (with_tables cause.1.loaded.texts told
-      (subst (λ h. HasNoTables h.grammar cause.1.loaded.texts k told) (same_accepted files path k setting.grammar accepted cause.0 cause.1) cause.2))
+      (subst (λ h. HasNoTables h cause.1.loaded.texts k told) (same_accepted files path k setting.grammar accepted cause.0 cause.1) cause.2))
   only_memory fault.NoMemory cause counts = refl
 
   -- a document is read to its end
@@ -131,7 +131,7 @@ module _ (files : Files) (path : List ℕ) (k : ℕ) (refused : Option (List ℕ
     at_code is done = subst (CheckDone setting held old new) (sym is) done
 
     prints : (output : List ℕ) → checking.Prints files path k held output → Checked setting (take most_read held) output
-    prints output p = subst (λ h. Checked h (take most_read held) output) (same_accepted files path k setting.grammar accepted p.setting.grammar p.holds) p.printed
+    prints output p = subst (λ h. Checked h (take most_read held) output) (same_setting files path k setting accepted p.setting p.holds) p.printed
 
     pub document_done : (outcome : Result Verdict Stop) → EndsWith outcome code → CheckComesTo files path k held refused after old new outcome → CountsAll faults outcome → IsDone
     document_done (Ok Whole) is came counts = at_code is (checking.whole (prints ok_line came.0) came.2)

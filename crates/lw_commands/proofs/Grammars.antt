@@ -18,6 +18,14 @@ pub same_accepted : (files : Files) (path : List ℕ) (k : ℕ) (g : Grammar) �
 same_accepted files path k g accepted h other =
     sym other.same ∙ ap (λ l. l.grammar) (sym (other.only accepted.loaded accepted.loads)) ∙ accepted.same
 
+abbrev by_grammar : Grammar → Setting
+by_grammar g = record { grammar = g }
+
+-- and so is the setting by it
+pub same_setting : (files : Files) (path : List ℕ) (k : ℕ) (setting : Setting) → IsAccepted files path k setting.grammar → (h : Setting) →
+    HoldsGrammar files path h.grammar → h ≡ setting
+same_setting files path k setting accepted h other = ap by_grammar (same_accepted files path k setting.grammar accepted h.grammar other)
+
 -- what a session comes to is settled by what the store answers
 abbrev pub AreSettledByAnswers : Setting → Type 0
 AreSettledByAnswers setting = (s t u : Standing) (bodies : List (List ℕ)) (asked : List (List Asked)) (p q : List Reply) (e f : Ended) →

@@ -21,7 +21,7 @@ use Rattle.lw_commands.specs.Making.{MakeComesTo, MakeDone, Sums, SumsUp}
 use Rattle.lw_commands.specs.Run.{Faults, NoneRose, Work, Ends, MakesAll}
 use Rattle.lw_commands.specs.Stops.{EndsWith, TheSink}
 use Rattle.lw_commands.proofs.Ends.{CountsAll, if_told, only_memory}
-use Rattle.lw_commands.proofs.Grammars.{same_accepted}
+use Rattle.lw_commands.proofs.Grammars.{same_setting}
 
 -- whoever makes so many documents by this grammar comes to one summary
 abbrev pub HasOneSummary : Setting → ℕ → Type 0
@@ -76,7 +76,7 @@ module _ (files : Files) (path : List ℕ) (k count : ℕ) (refused old new : Op
 
   pub summary_done : (outcome : Result Verdict Stop) → EndsWith outcome code → MakeComesTo files path k count refused old new outcome → CountsAll faults outcome → MakeDone setting count old new code
   summary_done (Ok Whole) is came counts =
-      at_code is (making.whole came.0 (subst (λ h. Sums h count came.0) (same_accepted files path k setting.grammar accepted came.1.setting.grammar came.1.holds) came.1.printed) came.2)
+      at_code is (making.whole came.0 (subst (λ h. Sums h count came.0) (same_setting files path k setting accepted came.1.setting came.1.holds) came.1.printed) came.2)
   summary_done (Ok Broken) is came counts = absurd came
   summary_done (Err e) (inr seven) came counts = at_code seven making.no_memory
   summary_done (Err stop.Words) (inl is) came counts = absurd came

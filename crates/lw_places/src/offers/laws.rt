@@ -4,6 +4,7 @@ ghost use Rattle.lw_link_rules.specs.Setting.{Setting};
 ghost use Rattle.lw_reading.specs.Laws.{IsReadOneWay};
 ghost use Rattle.lw_link_rules.specs.Links.{Texts};
 ghost use Rattle.lw_scoping.specs.Links.{ByTest, Trees};
+ghost use Rattle.lw_scoping.specs.Rules.{all_seen};
 ghost use Rattle.lw_tree.specs.declared.node.Reference.{Reference};
 ghost use Rattle.lw_tree.specs.Parts.{Parts};
 ghost use Rattle.lw_places.specs.Offers.{AreOffers, Offer};
@@ -16,7 +17,7 @@ pub fn one_list()
     ensures offers { (setting : Setting) → IsReadOneWay setting.grammar → (texts : Texts) (address text : List ℕ) (offset : ℕ) (offers others : List Offer) →
         AreOffers setting texts address text offset offers → AreOffers setting texts address text offset others → offers ≡ others }
     ensures visible { (is_below : ℕ → ℕ → Bool) (trees : Trees) (address : List ℕ) (tree : Parts) (r : Reference) (names others : List (List ℕ)) →
-        AreVisible (ByTest is_below) trees address tree r names → AreVisible (ByTest is_below) trees address tree r others → names ≡ others }
+        AreVisible (all_seen (ByTest is_below)) trees address tree r names → AreVisible (all_seen (ByTest is_below)) trees address tree r others → names ≡ others }
 {}
 
 /// What is offered begins with the word that ends at the offset, and is a keyword or a name that may be read there.

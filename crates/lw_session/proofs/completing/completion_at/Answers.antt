@@ -1,11 +1,11 @@
 use Rattle.std.proofs.Common.{List, ℕ, All, sym, ◌∙◌, subst}
 use Rattle.std.specs.List.{AllZip}
+use Rattle.lw_link_rules.specs.Setting.{Setting}
 use Rattle.lw_base.specs.declared.numbers.DocId.{DocId}
 use Rattle.lw_build.specs.View.{documents}
 use Rattle.lw_complete.specs.declared.item.Item.{Item}
 use Rattle.lw_conversation.specs.Asking as tell
 use Rattle.lw_conversation.specs.Asking.{TellsCompletion}
-use Rattle.lw_grammar.specs.declared.grammar.Grammar.{Grammar}
 use Rattle.lw_link.specs.Visible.{IsNumberAt}
 use Rattle.lw_machine.specs.Documents.{present_texts}
 use Rattle.lw_rpc.specs.declared.reply.Outcome.TheVariants.{Offers}
@@ -41,7 +41,7 @@ returns c =
     (c.index.ensures.numbers c.args.address.now is.held is.here) in
     let setting = setting_of c.language.result.now in
     let are = c.in_ok-offered.ensures.offers (present_texts (documents v)) trees c.args.address.now
-    (subst (λ (g : Grammar). AreTreesOfTexts g (present_texts (documents v)) trees) (sym c.language.ensures) are_trees) is_index number in
+    (subst (λ (x : Setting). AreTreesOfTexts x.grammar (present_texts (documents v)) trees) (sym c.language.ensures) are_trees) is_index number in
     tells_offers v setting c.language.ensures c.args.address.now c.args.at c.in-Some.asked is text same items told are c.in_ok-offered.ensures.spans
     (subst (λ (t : List ℕ). AllZip (IsItemTold t) items told) (sym c.as_name.ensures.text)
     (subst (λ (is : List Item). AllZip (IsItemTold c.in-Some-text_of.text.now) is told) c.as_slice.ensures.value c.in_ok-items.ensures))

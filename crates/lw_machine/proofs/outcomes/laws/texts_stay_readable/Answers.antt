@@ -4,4 +4,4 @@ use Rattle.lw_machine.proofs.Staying.{stay_readable}
 use Rattle.lw_machine.proofs.outcomes.laws.texts_stay_readable.Goals as goal
 
 pub returns : goal.returns
-returns c = record { begins = none_held; stay = stay_readable; clean = clean_texts }
+returns c = record { begins = λ g. none_held (record { grammar = g }); stay = stay_readable; clean = λ g. clean_texts (record { grammar = g }) }

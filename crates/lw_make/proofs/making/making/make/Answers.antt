@@ -1,5 +1,6 @@
 use Rattle.std.proofs.Common.{◌≡◌, ◌++◌, length, refl, subst, ◌∙◌, arith, rules, length-append}
 use Rattle.std.specs.List.{range_with_len}
+use Rattle.lw_lang.specs.Language.{setting_of}
 use Rattle.lw_build.specs.View.{documents}
 use Rattle.lw_link_rules.specs.Setting.{Setting}
 use Rattle.lw_machine.specs.Building.{BuildsToEnd}
@@ -17,7 +18,7 @@ edit_all-requires-clause-unedited g c =
 
 pub returns-clause-made : goal.returns-clause-made
 returns-clause-made g c =
-    let of = c.args.language.grammar in
+    let of = setting_of c.args.language in
     let put = made c.args.count c.args.count in
     let built = documents c.advance.new.self in
     let end = documents c.edit_all.new.workspace in
