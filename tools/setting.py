@@ -310,6 +310,7 @@ LANGUAGE = re.compile(r"(^|[._-])language(\.now|\.old|\.new|\.result|\.result\.n
 def convert_path(node, it, wants):
     """`v.grammar` as an argument, where a setting is wanted or not"""
     before = it.text[: -len(".grammar")]
+    if re.search(r"(^|\.)setting$", before): return it.text
     if ".ensures" in before or ".invariant" in before: return before + ".setting"
     if LANGUAGE.search(before) or before in ("l",) and node.file.crate != "lw_commands":
         return "(setting_of " + before + ")" if wants else it.text
@@ -333,7 +334,7 @@ def rewrite(node):
             if kind != "part": return
             for it in part:
                 if is_word(it) and it.text.endswith(".grammar") and not it.text.startswith("Rattle") and not LANGUAGE.search(it.text[: -8]):
-                    if it.text[:-8] == "l" or re.search(r"(^|\.)loaded$", it.text[:-8]): continue
+                    if it.text[:-8] == "l" or re.search(r"(^|\.)(loaded|setting)$", it.text[:-8]): continue
                     it.out = it.text[: -8] + ".setting"
                     if len(part) == 1 and part.left and part.left.pattern and len(part.left) == 1 and is_word(part.left[0]) and part.left[0].text not in settings | {"grammar"}:
                         it.out += ".grammar"
@@ -567,7 +568,7 @@ def edits(when, only):
             if text.count(old) > 1: print("twice:", head, "|", old.split("\n")[0][:80]); continue
             text = text.replace(old, new)
         elif not old and not text: text = new + "\n"
-        elif new in text: continue
+        elif new in text or when == "before" and ".specs.Setting.{" in text: continue
         else:
             print("lost:", head, "|", old.split("\n")[0][:80]); continue
         os.makedirs(os.path.dirname(file), exist_ok=True)
