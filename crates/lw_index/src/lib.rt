@@ -4,15 +4,16 @@
 //! exports of all documents, so that whoever looks for a name finds the document that has it.
 //!
 //! Its model is the map of the documents by number, each with its URI and its exports (`specs/Indexed.antt`). Nothing else is seen of
-//! it. Numbers and URIs of documents are one to one: a document may be set under a number only where no other number has its URI. A
-//! number that is removed may be given again, and a document may be set anew under another URI.
+//! it. Numbers and URIs of documents are one to one: a document may be set under a number only where no other number has its URI, which
+//! [`Index::is_free_for`] tells. This stands as a condition and is not looked at by [`Index::set`], since that would be a walk over all
+//! documents. A number that is removed may be given again, and a document may be set anew under another URI.
 //!
 //! It promises that [`Index::set`] and [`Index::remove`] change that one document and hand back what it exported; that
 //! [`Index::first`] answers the first fitting export over all documents, by the bytes of URIs and then by nodes, and none only where
 //! none fits, and counts one step; that [`Index::others`] answers the least URI of another document with an export of the name and the
 //! very type; that [`Index::names`] answers exactly the names that documents other than one export with a type of a set, in the order
-//! of their bytes, each once, and [`Index::is_exported_elsewhere`] whether a name is one of these; and that nothing changes where memory is
-//! refused.
+//! of their bytes, each once, and [`Index::is_exported_elsewhere`] whether a name is one of these; that [`Index::is_free_for`] tells whether
+//! no other document has a URI; and that nothing changes where memory is refused.
 //!
 //! [`Index::set`] puts a document in, in place of the one of its number. [`Index::others`] answers none exactly where
 //! there is no such document. [`Index::of`] lends what a document exports.
