@@ -16,7 +16,8 @@ use Rattle.lw_builder.specs.declared.builder.Builder.{Builder}
 use Rattle.lw_builder.specs.declared.open.Open.TheVariants as variant
 use Rattle.lw_builder.specs.declared.open.OpenNode.{OpenNode}
 use Rattle.lw_builder.specs.declared.open.OpenValue.{OpenValue}
-use Rattle.lw_builder.specs.Standing.{AreOpen, more, node, value_, StandsOpen}
+use Rattle.lw_builder.specs.declared.open.TableLengths.{TableLengths}
+use Rattle.lw_builder.specs.Standing.{AreOpen, more, node, value_, StandsOpen, AreLengthsOf}
 use Rattle.lw_builder.specs.Steps.{IsOver, read_tokens}
 use Rattle.lw_builder.proofs.Lengths.{length-all_finished}
 use Rattle.lw_builder.proofs.MarkCases.{opens_so, puts_so}
@@ -49,18 +50,29 @@ begun g old new r t open_node bs after over h change at puts type first start va
     } in
     subst (λ k. StandsOpen g new k) (sym o.2) stands
 
+-- so long are the tables
+pub record HasLengths (builder : Builder) (lengths : TableLengths) : Type 0 where
+  pub finished : lengths.finished ≡ length builder.finished.items
+  pub kept : lengths.kept ≡ length builder.kept.items
+  pub refs : lengths.refs ≡ length builder.refs.items
+
 pub value_begun : (g : Grammar) (old new : Builder) (name : List ℕ) (op : Op) (c : Value0) (open_value : OpenValue) (bs after : List Bracket) → IsOver g old →
     StandsOpen g old bs → MeansMark g (numbered.Put open_value.put) (mark.Put name op c) → ChangesOpen g old.text.now (read_tokens old) (mark.Put name op c) bs after →
-    Puts_on old new (variant.InValue open_value) → open_value.first ≡ old.read → open_value.node ≡ None → StandsOpen g new after
-value_begun g old new name op c open_value bs after over h means change puts first inside =
+    Puts_on old new (variant.InValue open_value) → open_value.first ≡ old.read → open_value.node ≡ None → HasLengths old open_value.before → StandsOpen g new after
+value_begun g old new name op c open_value bs after over h means change puts first inside has =
     let o = puts_so g old.text.now (read_tokens old) name op c bs after change in
     let b : Bracket = InValue o.0 op c (length (read_tokens old)) None in
+    let lengths : AreLengthsOf bs open_value.before = record {
+      finished = has.finished ∙ ap length h.finished;
+      kept = has.kept ∙ ap length h.stored;
+      refs = has.refs ∙ ap length h.refs;
+    } in
     let stands : StandsOpen g new (b ∷ bs) = record {
       finished = puts.same.finished ∙ h.finished;
       stored = puts.same.kept ∙ h.stored;
       loose = puts.same.loose ∙ h.loose;
       refs = puts.same.refs ∙ h.refs;
       brackets = subst (λ l. AreOpen g (b ∷ bs) l) (sym puts.brackets)
-          (more h.brackets (value_ means o.1 (first ∙ sym (as_many_read g old over)) inside));
+          (more h.brackets (value_ means o.1 (first ∙ sym (as_many_read g old over)) inside lengths));
     } in
     subst (λ k. StandsOpen g new k) (sym o.2) stands

@@ -1,7 +1,8 @@
 -- What is still open is closed.
-use Rattle.std.proofs.Common.{ℕ, ◌≡◌, ◌+◌, ◌-◌, ◌<◌, ◌≤◌, suc, Option, Some, None, List, [], ◌∷◌, ◌++◌, length, drop, count_by, slice_get, refl, sym, subst, ap, ◌∙◌, arith}
+use Rattle.std.proofs.Common.{ℕ, ◌≡◌, ◌+◌, ◌-◌, ◌<◌, ◌≤◌, suc, Option, Some, None, List, [], ◌∷◌, ◌++◌, length, take, count_by, slice_get, refl, sym, subst, ap, ◌∙◌, arith}
 use Rattle.std.specs.Prelude.{Result, OnOk, MatchOption, if◌then◌else◌}
 use Rattle.std.proofs.lemmas.Option.{none-some, same_Some, slice_get-get_or}
+use Rattle.std.proofs.lemmas.List.{take_all, take_at}
 use Rattle.std.proofs.lemmas.List.Sums.{sum_by-append}
 use Rattle.lw_base.specs.declared.token.Token.{Token}
 use Rattle.lw_grammar.specs.declared.grammar.Grammar.{Grammar}
@@ -10,7 +11,7 @@ use Rattle.lw_grammar.specs.declared.rule.Value0.{Value0}
 use Rattle.lw_grammar.specs.Marks as mark
 use Rattle.lw_reading.specs.Grown.{Grown, Held}
 use Rattle.lw_reading.specs.Brackets.{Bracket, InNode, InValue, Root, Shuts, in_value, in_node, at_root}
-use Rattle.lw_reading.specs.Follows.{ChangesOpen, shuts, Closes, root, shut, ended, left_out, MakesReference, PutsValueIn, a_reference, plain, RefersBy, written, by_type, IsCross}
+use Rattle.lw_reading.specs.Follows.{ChangesOpen, shuts, Closes, root, shut, ended, left_out, MakesReference}
 use Rattle.lw_program.specs.declared.recipes.recipe.ValueRecipe.{ValueRecipe}
 use Rattle.lw_program.specs.Making.{AreRecipesOf, IsReference}
 use Rattle.lw_builder.specs.declared.builder.Builder.{Builder}
@@ -19,13 +20,14 @@ use Rattle.lw_builder.specs.declared.open.Open.TheVariants as variant
 use Rattle.lw_builder.specs.declared.open.OpenNode.{OpenNode}
 use Rattle.lw_builder.specs.declared.open.OpenValue.{OpenValue}
 use Rattle.lw_builder.specs.Built.{ArePartsOf}
-use Rattle.lw_builder.specs.Standing.{nodes_in, place_in, IsOpen, node, value_, whole, AreOpen, none, more, StandsOpen}
-use Rattle.lw_builder.specs.Steps.{IsOver, DoesMark, IsClosing, IsSameReading, IsWholeTree, is_bracket_open, count_open, read_tokens}
-use Rattle.lw_builder.proofs.MarkCases.{EndsSo, ends_so}
+use Rattle.lw_builder.specs.Finishing.{finished}
+use Rattle.lw_builder.specs.Standing.{nodes_in, points_in, all_finished, all_stored, all_pointed, IsOpen, node, value_, whole, AreOpen, none, more, StandsOpen}
+use Rattle.lw_builder.specs.Tables.{stored, pointed}
+use Rattle.lw_builder.specs.Steps.{IsOver, DoesMark, IsClosing, IsCut, IsSameReading, IsWholeTree, is_bracket_open, count_open, read_tokens}
+use Rattle.lw_builder.proofs.MarkCases.{ends_so}
 use Rattle.lw_builder.proofs.SameReading.{same_tokens}
 use Rattle.lw_builder.proofs.Ends.{last_of, no_last}
-use Rattle.lw_builder.proofs.Ending.{IsRecipeFor, recipe_for, has_recipe}
-use Rattle.lw_builder.proofs.Making.{plain_made}
+use Rattle.lw_builder.proofs.Ending.{recipe_for, has_recipe}
 use Rattle.lw_builder.proofs.Results.{on_ok}
 use Rattle.lw_builder.proofs.Taking.{Took, IsValueOpen, top_of, root_open, of_value, value_open, node_open, below_taken, some_taken}
 
@@ -44,7 +46,7 @@ unfolding open_in
 as_many_open g bs items none = refl
 as_many_open g bs items (more {bs = below} {others = others} a (node {open_node = n} t f s v)) =
     omega (arith, count_last others (variant.InNode n), as_many_open g below others a)
-as_many_open g bs items (more {bs = below} {others = others} a (value_ {open_value = v} means p f n)) =
+as_many_open g bs items (more {bs = below} {others = others} a (value_ {open_value = v} means p f n lengths)) =
     omega (arith, count_last others (variant.InValue v), as_many_open g below others a)
 as_many_open g bs items (more {bs = below} {others = others} a whole) = omega (arith, count_last others variant.Whole, as_many_open g below others a)
 
@@ -199,56 +201,55 @@ value_ended answer g old new below open_value r x at is no_reference does same c
       fewer_open g old new closing.brackets n.0 closing.stands k (fewer_ended g old.text.now (read_tokens old) closing.brackets n.0 n.1),
     ))
 
--- a reference that is not finished is left out
-is_cross : (g : Grammar) (c : Value0) (wanted name : List ℕ) → RefersBy g c wanted name → IsCross c
-is_cross g c wanted name (written {s = s} is) = (wanted, Some name, s, is)
-is_cross g c wanted name (by_type {s = s} is by) = (wanted, None, s, is)
+-- a reference that is not finished is left out: the tables are cut to what they were before it
+cut_finished : (bs : List Bracket) (p at : ℕ) (op : Op) (c : Value0) (inside : Option Grown) (n : ℕ) → n ≡ length (all_finished bs) →
+    take n (all_finished (InValue p op c at inside ∷ bs)) ≡ all_finished bs
+cut_finished bs p at op c None n is = take_all n (all_finished bs) (omega (arith, is))
+cut_finished bs p at op c (Some x) n is = take_at (all_finished bs) (finished None None (nodes_in bs) x) n (sym is)
 
-no_plain : (g : Grammar) (text : List ℕ) (ts : List Token) (p : ℕ) (op : Op) (c : Value0) (held holds : Held) (r : ValueRecipe) (name : List ℕ) → IsRecipeFor g name op c r →
-    IsReference r.content → PutsValueIn g text op c ts None held p holds → MakesReference op c
-no_plain g text ts p op c held holds r name rf refers (plain {v = v} is) =
-    let m = plain_made g text ts op c v is in
-    absurd (m.no_reference (subst (λ k. IsReference k) (rf.so m.made m.by) refers))
-no_plain g text ts p op c held holds r name rf refers (a_reference not by wants looks) = (not, is_cross g c _ _ by)
+cut_stored : (bs : List Bracket) (p at : ℕ) (op : Op) (c : Value0) (inside : Option Grown) (n : ℕ) → n ≡ length (all_stored bs) →
+    take n (all_stored (InValue p op c at inside ∷ bs)) ≡ all_stored bs
+cut_stored bs p at op c None n is = take_all n (all_stored bs) (omega (arith, is))
+cut_stored bs p at op c (Some x) n is = take_at (all_stored bs) (stored (nodes_in bs) (points_in bs) x) n (sym is)
 
-no_inside : (base : ℕ) (inside : Option Grown) → None ≡ place_in base inside → inside ≡ None
-no_inside base None e = refl
-no_inside base (Some x) e = absurd (none-some _ e)
+cut_pointed : (bs : List Bracket) (p at : ℕ) (op : Op) (c : Value0) (inside : Option Grown) (n : ℕ) → n ≡ length (all_pointed bs) →
+    take n (all_pointed (InValue p op c at inside ∷ bs)) ≡ all_pointed bs
+cut_pointed bs p at op c None n is = take_all n (all_pointed bs) (omega (arith, is))
+cut_pointed bs p at op c (Some x) n is = take_at (all_pointed bs) (pointed (nodes_in bs) x) n (sym is)
 
-no_end : (g : Grammar) (text : List ℕ) (ts : List Token) (p at : ℕ) (op : Op) (c : Value0) (r : ValueRecipe) (name : List ℕ) (rest bs after : List Bracket) →
-    bs ≡ InValue p op c at None ∷ rest → IsRecipeFor g name op c r → IsReference r.content → ¬ MakesReference op c → ChangesOpen g text ts mark.End bs after → ⊥
-no_end g text ts p at op c r name rest bs after e rf refers not change =
-    let w : EndsSo g text ts bs after = ends_so g text ts bs after change in
-    let was = w.was in
-    let same_op : w.op ≡ op = cc in
-    let same_c : w.c ≡ c = cc in
-    let no_node : w.node ≡ None = cc in
-    let put = subst (λ k. PutsValueIn g text k w.c (drop w.at ts) w.node w.held w.p w.holds) same_op w.put in
-    let put' = subst (λ k. PutsValueIn g text op k (drop w.at ts) w.node w.held w.p w.holds) same_c put in
-    let put'' = subst (λ k. PutsValueIn g text op c (drop w.at ts) k w.held w.p w.holds) no_node put' in
-    not (no_plain g text (drop w.at ts) w.p op c w.held w.holds r name rf refers put'')
+same_after : (old mid new : Builder) → IsSameReading old mid → IsSameReading mid new → IsSameReading old new
+same_after old mid new one other = record {
+  over = record {
+    text = other.over.text ∙ one.over.text;
+    visible = other.over.visible ∙ one.over.visible;
+    recipes = other.over.recipes ∙ one.over.recipes;
+  };
+  read = other.read ∙ one.read;
+}
 
-pub left_out_closing : (g : Grammar) (old new : Builder) (below : List Open) (open_value taken : OpenValue) (r : ValueRecipe) (x : Grown) →
+pub left_out_closing : (g : Grammar) (old mid new : Builder) (below : List Open) (open_value taken : OpenValue) (r : ValueRecipe) (x : Grown) →
     old.brackets.items ≡ below ++ variant.InValue open_value ∷ [] → slice_get old.recipes.now.made open_value.put ≡ Some r → IsReference r.content →
-    open_value.node ≡ None → Took old new (variant.InValue taken) → IsSameReading old new → IsClosing g old x → IsClosing g new x
-left_out_closing g old new below open_value taken r x at is refers no_node took same closing =
-    let one : variant.InValue taken ≡ variant.InValue open_value = last_of new.brackets.items below (variant.InValue taken) (variant.InValue open_value) (sym took.brackets ∙ at) in
-    let brackets : old.brackets.items ≡ new.brackets.items ++ variant.InValue open_value ∷ [] = took.brackets ∙ ap (λ o. new.brackets.items ++ o ∷ []) one in
-    let i = value_innermost g closing.brackets old.brackets.items new.brackets.items open_value brackets closing.stands.brackets in
+    Took old mid (variant.InValue taken) → IsSameReading old mid → IsCut open_value.before mid new → IsSameReading mid new → IsClosing g old x → IsClosing g new x
+left_out_closing g old mid new below open_value taken r x at is refers took same cut again closing =
+    let one : variant.InValue taken ≡ variant.InValue open_value = last_of mid.brackets.items below (variant.InValue taken) (variant.InValue open_value) (sym took.brackets ∙ at) in
+    let brackets : old.brackets.items ≡ mid.brackets.items ++ variant.InValue open_value ∷ [] = took.brackets ∙ ap (λ o. mid.brackets.items ++ o ∷ []) one in
+    let i = value_innermost g closing.brackets old.brackets.items mid.brackets.items open_value brackets closing.stands.brackets in
     let rf = recipe_for g old.recipes.now open_value.put i.open_so.name i.op i.c r closing.over.recipes i.open_so.means is in
-    let none : i.inside ≡ None = no_inside (nodes_in i.rest) i.inside (sym no_node ∙ i.open_so.node) in
-    let now : closing.brackets ≡ InValue i.p i.op i.c i.at None ∷ i.rest = i.is ∙ ap (λ k. InValue i.p i.op i.c i.at k ∷ i.rest) none in
-    let h : StandsOpen g old (InValue i.p i.op i.c i.at None ∷ i.rest) = subst (λ l. StandsOpen g old l) now closing.stands in
+    let h : StandsOpen g old (InValue i.p i.op i.c i.at i.inside ∷ i.rest) = subst (λ l. StandsOpen g old l) i.is closing.stands in
+    let lengths = i.open_so.before in
     let stands : StandsOpen g new i.rest = record {
-      finished = took.same.finished ∙ h.finished;
-      stored = took.same.kept ∙ h.stored;
-      loose = took.same.loose ∙ h.loose;
-      refs = took.same.refs ∙ h.refs;
-      brackets = i.rest_open;
+      finished = cut.finished ∙ ap (take open_value.before.finished) (took.same.finished ∙ h.finished)
+          ∙ cut_finished i.rest i.p i.at i.op i.c i.inside open_value.before.finished lengths.finished;
+      stored = cut.kept ∙ ap (take open_value.before.kept) (took.same.kept ∙ h.stored)
+          ∙ cut_stored i.rest i.p i.at i.op i.c i.inside open_value.before.kept lengths.kept;
+      loose = cut.loose ∙ took.same.loose ∙ h.loose;
+      refs = cut.refs ∙ ap (take open_value.before.refs) (took.same.refs ∙ h.refs)
+          ∙ cut_pointed i.rest i.p i.at i.op i.c i.inside open_value.before.refs lengths.refs;
+      brackets = subst (λ items. AreOpen g i.rest items) (sym cut.brackets) i.rest_open;
     } in
-    elim (closes_so g old x closing new.brackets.items open_value i) [
-      | ends {after = after} not change closes ↦ absurd (no_end g old.text.now (read_tokens old) i.p i.at i.op i.c r i.open_so.name i.rest closing.brackets after now rf refers not change)
-      | leaves makes closes ↦ still_closing g old new x i.rest closing.over same closes stands
+    elim (closes_so g old x closing mid.brackets.items open_value i) [
+      | ends {after = after} not change closes ↦ absurd (not (rf.only refers))
+      | leaves makes closes ↦ still_closing g old new x i.rest closing.over (same_after old mid new same again) closes stands
     ]
 
 -- ---- the end

@@ -45,6 +45,7 @@ pub record IsRecipeFor (g : Grammar) (name : List ℕ) (op : Op) (c : Value0) (r
   pub number : IsNumberOfProperty g name r.prop.0
   pub so : (made : Content) → IsMadeBy g op c made → r.content ≡ made
   pub refers : MakesReference op c → IsReference r.content
+  pub only : IsReference r.content → MakesReference op c
 
 pub recipe_for : (g : Grammar) (recipes : RecipeLists) (n : ℕ) (name : List ℕ) (op : Op) (c : Value0) (r : ValueRecipe) → AreRecipesOf g recipes →
     MeansMark g (numbered.Put n) (mark.Put name op c) → slice_get recipes.made n ≡ Some r → IsRecipeFor g name op c r
@@ -55,6 +56,7 @@ recipe_for g recipes n name op c r are (puts {s = s} at assigned stands) is =
       number = subst (λ (k : ValueRecipe). IsNumberOfProperty g name k.prop.0) same h.2;
       so = λ made by. ap (λ (k : ValueRecipe). k.content) (sym same) ∙ h.3 made by;
       refers = λ makes. are.references n s name op c at assigned stands makes r is;
+      only = λ refers. are.only n s name op c at assigned stands r is refers;
     }
 
 pub has_recipe : (g : Grammar) (recipes : RecipeLists) (n : ℕ) (name : List ℕ) (op : Op) (c : Value0) → AreRecipesOf g recipes →

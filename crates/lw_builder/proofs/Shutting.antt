@@ -17,7 +17,7 @@ use Rattle.lw_builder.specs.declared.open.Open.TheVariants as variant
 use Rattle.lw_builder.specs.declared.open.OpenNode.{OpenNode}
 use Rattle.lw_builder.specs.declared.open.OpenValue.{OpenValue}
 use Rattle.lw_builder.specs.Contents.{nobody}
-use Rattle.lw_builder.specs.Standing.{nodes_in, points_in, all_finished, all_stored, all_loose, all_pointed, AreOpen, none, more, node, value_, whole, StandsOpen}
+use Rattle.lw_builder.specs.Standing.{nodes_in, points_in, all_finished, all_stored, all_loose, all_pointed, AreOpen, none, more, node, value_, whole, StandsOpen, AreLengthsOf}
 use Rattle.lw_builder.specs.Steps.{KeepsTables, IsReadyToFinish, IsFinished}
 use Rattle.lw_builder.proofs.Ends.{no_last}
 use Rattle.lw_builder.proofs.Taking.{Took, IsNodeOpen, node_open, IsValueOpen, value_open, of_value, root_open, top_of, below_taken, none_open}
@@ -79,9 +79,9 @@ pub record Puts_on (done new : Builder) (one : Open) : Type 0 where
 pub shut_value : (g : Grammar) (old mid low done new : Builder) (open_node : OpenNode) (value next : OpenValue) (own : NodeId) (ts : List Token)
     (bs after : List Bracket) → StandsOpen g old bs → Shuts ts bs after → Took old mid (variant.InNode open_node) → Took mid low (variant.InValue value) →
     Finishes low done open_node own ts → done.brackets.items ≡ low.brackets.items → Puts_on done new (variant.InValue next) →
-    next.put ≡ value.put → next.first ≡ value.first → next.node ≡ Some own → StandsOpen g new after
+    next.put ≡ value.put → next.first ≡ value.first → next.node ≡ Some own → next.before ≡ value.before → StandsOpen g new after
 shut_value g old mid low done new open_node value next own ts bs after h (in_value {type = t} {from = f} {p = p} {at = at} {held = held} {op = op} {c = c} {bs = rest})
-    took took' fin same puts put first inside =
+    took took' fin same puts put first inside lengths =
     let below : List Bracket = InValue p op c at None ∷ rest in
     let n = node_taken g old mid open_node t f held below took h in
     let x : Grown = grown ts t f held in
@@ -95,16 +95,17 @@ shut_value g old mid low done new open_node value next own ts bs after h (in_val
       loose = puts.same.loose ∙ d.loose;
       refs = puts.same.refs ∙ d.refs;
       brackets = subst (λ l. AreOpen g (InValue p op c at (Some x) ∷ rest) l) (sym (puts.brackets ∙ ap (λ l. l ++ variant.InValue next ∷ []) same))
-          (more rest_taken.0 (value_ (subst (λ k. MeansMark g (numbered.Put k) (mark.Put v.name op c)) (sym put) v.means) v.prop (first ∙ v.first) (inside ∙ ap Some own')));
+          (more rest_taken.0 (value_ (subst (λ k. MeansMark g (numbered.Put k) (mark.Put v.name op c)) (sym put) v.means) v.prop (first ∙ v.first) (inside ∙ ap Some own')
+          (subst (λ lengths. AreLengthsOf rest lengths) (sym lengths) v.before)));
     }
 shut_value g old mid low done new open_node value next own ts bs after h (in_node {type = t} {from = f} {outer = outer} {at = at} {held = held} {bs = rest})
-    took took' fin same puts put first inside =
+    took took' fin same puts put first inside lengths =
     let below : List Bracket = InNode outer at Nothing ∷ rest in
     let n = node_taken g old mid open_node t f held below took h in
     let v = of_value g rest (InNode outer at Nothing) (variant.InValue value) value
     (below_taken g mid.brackets.items low.brackets.items (variant.InValue value) (InNode outer at Nothing) rest took'.brackets n.below).1 refl in
     absurd (let e = v.is in let z : ⊥ = cc in z)
-shut_value g old mid low done new open_node value next own ts bs after h (at_root {type = t} {from = f} {held = held}) took took' fin same puts put first inside =
+shut_value g old mid low done new open_node value next own ts bs after h (at_root {type = t} {from = f} {held = held}) took took' fin same puts put first inside lengths =
     let n = node_taken g old mid open_node t f held [] took h in
     absurd (no_last low.brackets.items (variant.InValue value) (sym (none_open g mid.brackets.items n.below) ∙ took'.brackets))
 

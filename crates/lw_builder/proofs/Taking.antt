@@ -14,7 +14,7 @@ use Rattle.lw_builder.specs.declared.open.Open.{Open}
 use Rattle.lw_builder.specs.declared.open.Open.TheVariants as variant
 use Rattle.lw_builder.specs.declared.open.OpenNode.{OpenNode}
 use Rattle.lw_builder.specs.declared.open.OpenValue.{OpenValue}
-use Rattle.lw_builder.specs.Standing.{nodes_in, all_loose, place_in, IsOpen, node, value_, whole, AreOpen, none, more, StandsOpen}
+use Rattle.lw_builder.specs.Standing.{nodes_in, all_loose, place_in, IsOpen, node, value_, whole, AreOpen, none, more, StandsOpen, AreLengthsOf}
 use Rattle.lw_builder.specs.Steps.{EndsInNode, EndsInValue, KeepsTables, IsReadyToFinish}
 use Rattle.lw_builder.proofs.Ends.{front_of, last_of, no_last}
 
@@ -46,6 +46,7 @@ pub record IsValueOpen (g : Grammar) (bs : List Bracket) (p : ℕ) (op : Op) (c 
   pub prop : IsNumberOfProperty g name p
   pub first : open_value.first ≡ at
   pub node : open_value.node ≡ place_in (nodes_in bs) inside
+  pub before : AreLengthsOf bs open_value.before
 
 pub node_open : (g : Grammar) (bs : List Bracket) (b : Bracket) (one : Open) (open_node : OpenNode) → IsOpen g bs b one → one ≡ variant.InNode open_node →
     IsNodeOpen bs b open_node
@@ -57,12 +58,12 @@ node_open g bs b one n (node {type = t} {from = f} {held = held} {open_node = m}
       start = ap (λ (k : OpenNode). k.start) (sym same) ∙ start;
       values = ap (λ (k : OpenNode). k.values) (sym same) ∙ values;
     }
-node_open g bs b one n (value_ means prop first inside) e = absurd (let z : ⊥ = cc in z)
+node_open g bs b one n (value_ means prop first inside lengths) e = absurd (let z : ⊥ = cc in z)
 node_open g bs b one n whole e = absurd (let z : ⊥ = cc in z)
 
 pub value_open : (g : Grammar) (bs : List Bracket) (p : ℕ) (op : Op) (c : Value0) (at : ℕ) (inside : Option Grown) (one : Open) (open_value : OpenValue) →
     IsOpen g bs (InValue p op c at inside) one → one ≡ variant.InValue open_value → IsValueOpen g bs p op c at inside open_value
-value_open g bs p op c at inside one v (value_ {name = name} {open_value = w} means prop first place) e =
+value_open g bs p op c at inside one v (value_ {name = name} {open_value = w} means prop first place lengths) e =
     let same : w ≡ v = cc in
     let P : OpenValue → Type 0 = λ u. MeansMark g (numbered.Put u.put) (mark.Put name op c) in
     record {
@@ -71,6 +72,7 @@ value_open g bs p op c at inside one v (value_ {name = name} {open_value = w} me
       prop = prop;
       first = ap (λ (u : OpenValue). u.first) (sym same) ∙ first;
       node = ap (λ (u : OpenValue). u.node) (sym same) ∙ place;
+      before = subst (λ (u : OpenValue). AreLengthsOf bs u.before) same lengths;
     }
 
 -- which bracket stands there
@@ -84,7 +86,7 @@ pub record IsOfValue (b : Bracket) : Type 0 where
 
 pub of_value : (g : Grammar) (bs : List Bracket) (b : Bracket) (one : Open) (open_value : OpenValue) → IsOpen g bs b one → one ≡ variant.InValue open_value →
     IsOfValue b
-of_value g bs b one v (value_ {p = p} {at = at} {op = op} {c = c} {inside = inside} means prop first place) e =
+of_value g bs b one v (value_ {p = p} {at = at} {op = op} {c = c} {inside = inside} means prop first place lengths) e =
     record { p = p; op = op; c = c; at = at; inside = inside; is = refl }
 of_value g bs b one v (node ty first start values) e = absurd (let z : ⊥ = cc in z)
 of_value g bs b one v whole e = absurd (let z : ⊥ = cc in z)
@@ -92,18 +94,18 @@ of_value g bs b one v whole e = absurd (let z : ⊥ = cc in z)
 pub root_open : (g : Grammar) (bs : List Bracket) (b : Bracket) (one : Open) → IsOpen g bs b one → one ≡ variant.Whole → (x : Grown) × (b ≡ Root x)
 root_open g bs b one (whole {x = x}) e = (x, refl)
 root_open g bs b one (node ty first start values) e = absurd (let z : ⊥ = cc in z)
-root_open g bs b one (value_ means prop first inside) e = absurd (let z : ⊥ = cc in z)
+root_open g bs b one (value_ means prop first inside lengths) e = absurd (let z : ⊥ = cc in z)
 
 -- what stands there for a bracket
 pub for_node : (g : Grammar) (bs : List Bracket) (b : Bracket) (one : Open) (t f : ℕ) (held : Held) → IsOpen g bs b one → b ≡ InNode t f held →
     (n : OpenNode) × (one ≡ variant.InNode n)
 for_node g bs b one t f held (node {open_node = n} ty first start values) e = (n, refl)
-for_node g bs b one t f held (value_ means prop first inside) e = absurd (let z : ⊥ = cc in z)
+for_node g bs b one t f held (value_ means prop first inside lengths) e = absurd (let z : ⊥ = cc in z)
 for_node g bs b one t f held whole e = absurd (let z : ⊥ = cc in z)
 
 pub for_value : (g : Grammar) (bs : List Bracket) (b : Bracket) (one : Open) (p at : ℕ) (op : Op) (c : Value0) (inside : Option Grown) → IsOpen g bs b one →
     b ≡ InValue p op c at inside → (v : OpenValue) × (one ≡ variant.InValue v)
-for_value g bs b one p at op c inside (value_ {open_value = v} means prop first place) e = (v, refl)
+for_value g bs b one p at op c inside (value_ {open_value = v} means prop first place lengths) e = (v, refl)
 for_value g bs b one p at op c inside (node ty first start values) e = absurd (let z : ⊥ = cc in z)
 for_value g bs b one p at op c inside whole e = absurd (let z : ⊥ = cc in z)
 

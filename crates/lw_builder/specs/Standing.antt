@@ -21,6 +21,7 @@ use Rattle.lw_builder.specs.declared.open.Open.{Open}
 use Rattle.lw_builder.specs.declared.open.Open.TheVariants as variant
 use Rattle.lw_builder.specs.declared.open.OpenNode.{OpenNode}
 use Rattle.lw_builder.specs.declared.open.OpenValue.{OpenValue}
+use Rattle.lw_builder.specs.declared.open.TableLengths.{TableLengths}
 use Rattle.lw_builder.specs.declared.builder.Builder.{Builder}
 use Rattle.lw_builder.specs.Contents.{nobody}
 
@@ -73,6 +74,12 @@ abbrev pub place_in : ℕ → Option Grown → Option NodeId
 place_in base None = None
 place_in base (Some x) = Some (record { 0 = base + size x - 1 })
 
+-- so long are the tables that they make
+pub record AreLengthsOf (bs : List Bracket) (lengths : TableLengths) : Type 0 where
+  pub finished : lengths.finished ≡ length (all_finished bs)
+  pub kept : lengths.kept ≡ length (all_stored bs)
+  pub refs : lengths.refs ≡ length (all_pointed bs)
+
 module _ (g : Grammar) where
   -- the bracket stands so inside these
   pub data IsOpen (bs : List Bracket) : Bracket → Open → Type 0 where
@@ -80,7 +87,7 @@ module _ (g : Grammar) where
         open_node.values ≡ length (all_loose bs) → IsOpen bs (InNode type from held) (variant.InNode open_node)
     value_ : {p at : ℕ} {op : Op} {c : Value0} {name : List ℕ} {inside : Option Grown} {open_value : OpenValue} →
         MeansMark g (numbered.Put open_value.put) (mark.Put name op c) → IsNumberOfProperty g name p → open_value.first ≡ at →
-        open_value.node ≡ place_in (nodes_in bs) inside → IsOpen bs (InValue p op c at inside) (variant.InValue open_value)
+        open_value.node ≡ place_in (nodes_in bs) inside → AreLengthsOf bs open_value.before → IsOpen bs (InValue p op c at inside) (variant.InValue open_value)
     whole : {x : Grown} → IsOpen bs (Root x) variant.Whole
 
   -- the innermost bracket stands last among those of the builder

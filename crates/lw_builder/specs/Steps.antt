@@ -13,6 +13,7 @@ use Rattle.lw_builder.specs.declared.open.Open.{Open}
 use Rattle.lw_builder.specs.declared.open.Open.TheVariants as variant
 use Rattle.lw_builder.specs.declared.open.OpenNode.{OpenNode}
 use Rattle.lw_builder.specs.declared.open.OpenValue.{OpenValue}
+use Rattle.lw_builder.specs.declared.open.TableLengths.{TableLengths}
 use Rattle.lw_builder.specs.declared.builder.Builder.{Builder}
 use Rattle.lw_builder.specs.Built.{ArePartsOf, IsOverSame}
 use Rattle.lw_builder.specs.Contents.{nobody}
@@ -50,6 +51,14 @@ pub record IsKeptButRefs (old new : Builder) : Type 0 where
   pub finished : new.finished.items ≡ old.finished.items
   pub kept : new.kept.items ≡ old.kept.items
   pub loose : new.loose.items ≡ old.loose.items
+  pub brackets : new.brackets.items ≡ old.brackets.items
+
+-- the tables are those of before, cut to these lengths
+pub record IsCut (lengths : TableLengths) (old new : Builder) : Type 0 where
+  pub finished : new.finished.items ≡ take lengths.finished old.finished.items
+  pub kept : new.kept.items ≡ take lengths.kept old.kept.items
+  pub loose : new.loose.items ≡ old.loose.items
+  pub refs : new.refs.items ≡ take lengths.refs old.refs.items
   pub brackets : new.brackets.items ≡ old.brackets.items
 
 -- how many brackets are open

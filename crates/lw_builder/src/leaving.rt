@@ -6,10 +6,10 @@ ghost use Rattle.lw_reading.specs.Grown.{Grown};
 ghost use Rattle.lw_program.specs.Making.{IsReference};
 ghost use Rattle.lw_builder.specs.declared.open.Open.{Open as Opened};
 ghost use Rattle.lw_builder.specs.Standing.{StandsOpen};
-ghost use Rattle.lw_builder.specs.Steps.{IsClosing, IsSameReading, IsWholeTree, count_open};
+ghost use Rattle.lw_builder.specs.Steps.{IsClosing, IsCut, IsSameReading, IsWholeTree, count_open};
 
 use crate::Builder;
-use crate::open::{Open, OpenValue};
+use crate::open::{Open, OpenValue, TableLengths};
 use lw_base::NoMemory;
 use lw_program::recipes::Content;
 
@@ -54,8 +54,7 @@ impl Builder<'_> {
         self.brackets.last().copied()
     }
 
-    /// Closes the value that is open innermost. A reference that is not finished is left out. No grammar reads a node inside a reference, so
-    /// that one with a node inside it is refused.
+    /// Closes the value that is open innermost. A reference that is not finished is left out, with all that was finished inside it.
     fn close_value(&mut self, value: OpenValue) -> Result<(), NoMemory>
         requires closing { (g : Grammar) × (x : Grown) × IsClosing g self.old x }
         requires innermost { (below : List Opened) × (self.old.brackets.items ≡ below ++ Open.InValue value ∷ []) }
@@ -67,13 +66,19 @@ impl Builder<'_> {
         if !is_reference(&recipe.content) {
             return self.end();
         }
-        match value.node {
-            None => {
-                self.take_value();
-                Ok(())
-            }
-            Some(_) => Err(NoMemory),
-        }
+        self.take_value();
+        self.cut(value.before);
+        Ok(())
+    }
+
+    /// Cuts the tables to these lengths.
+    fn cut(&mut self, lengths: TableLengths)
+        ensures cut { IsCut lengths self.old self.new }
+        ensures reading { IsSameReading self.old self.new }
+    {
+        self.finished.truncate(lengths.finished);
+        self.kept.truncate(lengths.kept);
+        self.refs.truncate(lengths.refs);
     }
 }
 

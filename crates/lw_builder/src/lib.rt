@@ -10,14 +10,14 @@
 //!
 //! It promises that a mark leaves open in the builder exactly what it leaves by the definition ([`Builder::mark`]),
 //! and that the tree is that of the grammar's derivation, or the one opened of a beginning ([`Builder::tree`]): what
-//! is open is closed, the innermost first, and a reference that is not finished is left out. A node inside a
-//! reference that is not finished is answered with want of memory ([`Builder::tree`]), which no clause says. No
-//! grammar without faults reads one. What becomes of tokens is looked up by number in the recipes of the grammar, and
-//! no name is compared. What tokens say, as a name or as a text, is told by [`said_by`].
+//! is open is closed, the innermost first, and a reference that is not finished is left out. What becomes of tokens is
+//! looked up by number in the recipes of the grammar, and no name is compared. What tokens say, as a name or as a
+//! text, is told by [`said_by`].
 //!
 //! A mark takes constant time, but for the texts that it copies and for the end of a node, which is linear in the
 //! values of the node. Nothing recurses. The only error is want of memory. It is answered, too, where there would
-//! be 2^32 nodes or 2^32 references.
+//! be 2^32 nodes or 2^32 references, which a tree has no numbers for. A short text can come to so many, where each of
+//! many fragments calls another twice and the last has an action: a node is made each time that this is read.
 //!
 //! In a folder of its own stands:
 //!

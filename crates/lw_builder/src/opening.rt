@@ -10,7 +10,7 @@ ghost use Rattle.lw_builder.specs.Steps.{CanDo, DoesMark, IsSameReading};
 
 use crate::Builder;
 use crate::finishing::place_behind;
-use crate::open::{Open, OpenNode, OpenValue};
+use crate::open::{Open, OpenNode, OpenValue, TableLengths};
 use lw_base::{NoMemory, RuleId, TypeId};
 
 impl Builder<'_> {
@@ -53,6 +53,11 @@ impl Builder<'_> {
             put,
             first: self.read,
             node: None,
+            before: TableLengths {
+                finished: self.finished.len(),
+                kept: self.kept.len(),
+                refs: self.refs.len(),
+            },
         }))?;
         Ok(())
     }

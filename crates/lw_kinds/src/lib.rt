@@ -17,7 +17,8 @@
 //! Nothing asks it yet.
 //!
 //! A table is made in one walk over the rules, in expected linear time. A keyword is found in constant
-//! time, as expected, and a terminal in time that is logarithmic in the number of terminals.
+//! time, as expected, and a terminal in time that is logarithmic in the number of terminals. An allocation
+//! that is refused is the only cause of an error, here and in the folders.
 //!
 //! In folders of their own stand:
 //!

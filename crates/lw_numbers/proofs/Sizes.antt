@@ -22,7 +22,7 @@ use Rattle.lw_grammar.specs.Kinds.{first_uses}
 use Rattle.lw_grammar.specs.Leaves.{Leaf, Keyword, Call, Assign, Act, leaves, layer_leaves}
 use Rattle.lw_grammar.specs.Size.{size, element_size, layer_size, term_size}
 use Rattle.lw_grammar.proofs.FirstUses.{stands_in}
-use Rattle.lw_grammar.proofs.LeafLemmas.{size_by, size-Assign, size-value_Call, size-Group, size-Pattern}
+use Rattle.lw_grammar.proofs.LeafLemmas.{size_by}
 use Rattle.lw_numbers.specs.FirstUses.{types_in, rule_properties, attribute_names}
 use Rattle.lw_numbers.specs.Numbering.{leaf_types, leaf_properties, put_property, result_types, if_whole, rule_types, type_names, property_names}
 
@@ -196,5 +196,3 @@ module _ (g : Grammar) where
 
 pub size-Act : (a : Action) → element_size (element.Act a) ≡ 2
 size-Act a = size_by _ _ (element.outs-Act a)
-
-pub ruleset sizes_of_forms = (size-Assign, size-value_Call, size-Act, size-Group, size-Pattern)

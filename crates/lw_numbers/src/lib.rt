@@ -5,7 +5,7 @@
 //! the number of its place; types and properties are numbered as they are first named. [`Numbers`]
 //! finds the number of a name, and the name of a type or a property. It also finds what a name means:
 //! the rule or the terminal that is called by it, the interface or the union that is declared by it,
-//! whether there is any, and whether one stands before a place.
+//! and whether there is any.
 //!
 //! Its model: a [`Numbers`] is a record of six lists. Four say how each name stands among the rules,
 //! the terminals, the interfaces and the unions: where its first declaration is, and how far to the
@@ -16,13 +16,12 @@
 //! nothing: also where a rule and a terminal have one name, which then means what stands first, and
 //! likewise an interface and a union. Where a rule and a terminal of one name stand at one place, it
 //! means neither. Numbers are made in one pass over the grammar, and a look-up takes constant time;
-//! both are expected times.
+//! both are expected times. Only an allocation that is refused is an error.
 //!
 //! [`Numbers::rule`] finds the number of the rule or terminal that a name means. [`Numbers::type_of`],
 //! [`Numbers::prop`], [`Numbers::type_name`] and [`Numbers::prop_name`] go between names and numbers.
 //! [`Numbers::called`] and [`Numbers::declared`] say what a name means, [`Numbers::is_called`] and
-//! [`Numbers::is_declared`] whether anything has it. [`Numbers::called_before`] and
-//! [`Numbers::declared_before`] say whether something of the name stands before a place.
+//! [`Numbers::is_declared`] whether anything has it.
 //!
 //! In folders of their own stand:
 //!

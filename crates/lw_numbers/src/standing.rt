@@ -1,5 +1,5 @@
 // How names stand among the rules, the terminals, the interfaces and the unions.
-ghost use Rattle.std.specs.Prelude.{◌≡◌, ◌+◌, ◌≤◌, ◌↔◌, ℕ, IsTrue, IsSomeAnd, IfOk, MatchOption, length};
+ghost use Rattle.std.specs.Prelude.{◌≡◌, ◌+◌, ◌≤◌, ◌↔◌, ℕ, IsTrue, IfOk, MatchOption, length};
 ghost use Rattle.std.specs.Option.{option_copied};
 ghost use Rattle.lw_grammar.specs.Named.{Declaration, declared_rule, declared_terminal, declared_interface, declared_union};
 ghost use Rattle.lw_numbers.specs.Standing.{IsAhead, IsBefore, Meets, declared_place, StandAmong};
@@ -179,15 +179,5 @@ pub(crate) fn number_ahead(one: Option<&Standing>, other: Option<&Standing>) -> 
                 None
             }
         }
-    }
-}
-
-/// Whether one of the declarations stands before the place.
-pub(crate) fn begins_before(standing: Option<&Standing>, place: Place) -> bool
-    ensures { IsTrue result ↔ IsSomeAnd (option_copied standing.entry) (λ s. IsBefore s.earliest place) }
-{
-    match standing {
-        Some(standing) => standing.earliest.is_before(place),
-        None => false,
     }
 }

@@ -12,7 +12,7 @@
 //!
 //! It promises that flags and table say exactly what the definitions of `lw_grammar` say: no rule and
 //! no pair is left out, and none is told of that is not so. Pairs are told by [`Subtypes::is_below`]
-//! and [`Subtypes::above`]. A fragment that calls itself, and types that are below each other, are as
+//! and [`Subtypes::above`]. Only want of memory is an error. A fragment that calls itself, and types that are below each other, are as
 //! good as any. `node_rules` takes expected linear time. A table is made in the time of one pass over
 //! the grammar for each type, and has an entry for each pair of which one is below the other; a look-up
 //! of a pair takes expected constant time for the names, and logarithmic time in the row.

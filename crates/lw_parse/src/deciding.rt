@@ -1,5 +1,5 @@
 // What a run does next.
-ghost use Rattle.std.specs.Prelude.{ℕ, ◌≡◌, ◌≢◌, ◌+◌, ◌<◌, ◌≤◌, None, Some, IfOk, MatchOption, slice_get};
+ghost use Rattle.std.specs.Prelude.{ℕ, ◌≡◌, ◌≢◌, ◌+◌, ◌<◌, ◌≤◌, None, Some, MatchOption, slice_get};
 ghost use Rattle.std.specs.Option.{option_map};
 ghost use Rattle.lw_base.specs.declared.numbers.PointId.{PointId};
 ghost use Rattle.lw_first.specs.Heads.{seen_in};
@@ -9,33 +9,38 @@ ghost use Rattle.lw_parse.specs.Deciding.{IsDecided, IsStepBy};
 
 use crate::run::Run;
 use crate::turn::{Places, Step, Turn};
-use lw_base::{KindId, NoMemory, PointId, RuleId};
+use lw_base::{KindId, PointId, RuleId};
 use lw_program::Instr;
 use lw_program::recipes::TreeMark;
 
 impl Run<'_> {
     /// What is done at this place, if anything can be.
-    pub(crate) fn decide(&self, place: u32) -> Result<Option<Turn>, NoMemory>
-        ensures { IfOk result (IsDecided (state_of self.now) place (slice_get (state_of self.now).parser.program.code place)) }
+    pub(crate) fn decide(&self, place: usize) -> Option<Turn>
+        ensures { IsDecided (state_of self.now) place (slice_get (state_of self.now).parser.program.code place) result }
     {
         self.turn_by(place, self.parser.instr_at(place))
     }
 
     /// What is done where this stands at the place.
-    fn turn_by(&self, place: u32, instr: Option<Instr>) -> Result<Option<Turn>, NoMemory>
-        ensures { IfOk result (IsDecided (state_of self.now) place instr) }
+    fn turn_by(&self, place: usize, instr: Option<Instr>) -> Option<Turn>
+        ensures { IsDecided (state_of self.now) place instr result }
     {
         match instr {
-            None => Ok(None),
-            Some(Instr::Token(kind)) => Ok(plainly(self.read(kind))),
-            Some(Instr::End) => Ok(leaving(TreeMark::End)),
-            Some(Instr::Shut) => Ok(leaving(TreeMark::Shut)),
-            Some(Instr::Act(number)) => Ok(leaving(TreeMark::Act(number))),
-            Some(Instr::Row { first, end }) => Ok(doing(Places::Row { first, end })),
-            Some(Instr::Choice { point, first, end }) => Ok(self.choose(point, first, end)),
-            Some(Instr::Maybe { point, body }) => Ok(self.choose_part(point, body)),
-            Some(Instr::Loop { point, body }) => Ok(self.choose_again(place, point, body)),
-            Some(Instr::Once { rest }) => Ok(self.once(rest)),
+            None => None,
+            Some(Instr::Token(kind)) => plainly(self.read(kind)),
+            Some(Instr::End) => leaving(TreeMark::End),
+            Some(Instr::Shut) => leaving(TreeMark::Shut),
+            Some(Instr::Act(number)) => leaving(TreeMark::Act(number)),
+            Some(Instr::Row { first, end }) => doing(Places::Row {
+                first: first as usize,
+                end: end as usize,
+            }),
+            Some(Instr::Choice { point, first, end }) => {
+                self.choose(point, first as usize, end as usize)
+            }
+            Some(Instr::Maybe { point, body }) => self.choose_part(point, body as usize),
+            Some(Instr::Loop { point, body }) => self.choose_again(place, point, body as usize),
+            Some(Instr::Once { rest }) => self.once(rest as usize),
             Some(Instr::Put { put, first }) => self.begin_value(put, first),
             Some(Instr::Call { rule }) => self.go_into(rule),
         }
@@ -56,58 +61,57 @@ impl Run<'_> {
     }
 
     /// A call of a rule: its body is to be done, and where it makes a node, that opens before and is shut behind it.
-    pub(crate) fn call(&self, rule: u16) -> Result<Option<Step>, NoMemory>
-        ensures { IfOk result (IsStepBy (state_of self.now) (Some (Instr.Call rule))) }
+    pub(crate) fn call(&self, rule: u16) -> Option<Step>
+        ensures { IsStepBy (state_of self.now) (Some (Instr.Call rule)) result }
     {
         match self.parser.start_of(rule) {
-            None => Ok(None),
-            Some(start) => Ok(Some(self.begin_rule(rule, start)?)),
+            None => None,
+            Some(start) => Some(self.begin_rule(rule, start)),
         }
     }
 
     /// A call of a rule whose body is at this place.
-    fn begin_rule(&self, rule: u16, start: u32) -> Result<Step, NoMemory>
+    fn begin_rule(&self, rule: u16, start: u32) -> Step
         requires { slice_get (state_of self.now).parser.program.starts rule ≡ Some (Some start) }
-        ensures { IfOk result (λ step. IsStepBy (state_of self.now) (Some (Instr.Call rule)) (Some step)) }
+        ensures { IsStepBy (state_of self.now) (Some (Instr.Call rule)) (Some result) }
     {
+        let start = start as usize;
         if !self.parser.makes_node(rule) {
-            return Ok(Step {
+            return Step {
                 mark: None,
                 places: Places::One(start),
-            });
+            };
         }
-        let end = behind(start)?;
-        Ok(Step {
+        Step {
             mark: Some(TreeMark::Open(RuleId(rule))),
-            places: Places::Two(start, end),
-        })
+            places: Places::Two(start, start + 1),
+        }
     }
 
-    fn go_into(&self, rule: u16) -> Result<Option<Turn>, NoMemory>
-        ensures { (p : ℕ) → IfOk result (IsDecided (state_of self.now) p (Some (Instr.Call rule))) }
+    fn go_into(&self, rule: u16) -> Option<Turn>
+        ensures { (p : ℕ) → IsDecided (state_of self.now) p (Some (Instr.Call rule)) result }
     {
-        let step = self.call(rule)?;
-        Ok(plainly(step))
+        plainly(self.call(rule))
     }
 
     /// What reads the text of a value.
-    fn enter(&self, instr: Option<Instr>) -> Result<Option<Step>, NoMemory>
-        ensures { IfOk result (IsStepBy (state_of self.now) instr) }
+    fn enter(&self, instr: Option<Instr>) -> Option<Step>
+        ensures { IsStepBy (state_of self.now) instr result }
     {
         match instr {
-            Some(Instr::Token(kind)) => Ok(self.read(kind)),
+            Some(Instr::Token(kind)) => self.read(kind),
             Some(Instr::Call { rule }) => self.call(rule),
-            _ => Ok(None),
+            _ => None,
         }
     }
 
     /// The value of this number, whose text is read at the first place and which ends behind it.
-    fn begin_value(&self, number: u32, first: u32) -> Result<Option<Turn>, NoMemory>
-        ensures { (p : ℕ) → IfOk result (IsDecided (state_of self.now) p (Some (Instr.Put number first))) }
+    fn begin_value(&self, number: u32, first: u32) -> Option<Turn>
+        ensures { (p : ℕ) → IsDecided (state_of self.now) p (Some (Instr.Put number first)) result }
     {
-        let end = behind(first)?;
-        let step = self.enter(self.parser.instr_at(first))?;
-        Ok(in_value(number, end, step))
+        let first = first as usize;
+        let step = self.enter(self.parser.instr_at(first));
+        in_value(number, first + 1, step)
     }
 
     /// The kind that stands so many places behind the next, or the end.
@@ -134,7 +138,7 @@ impl Run<'_> {
     }
 
     /// One of the ways from the first place up to the end.
-    fn choose(&self, point: PointId, first: u32, end: u32) -> Option<Turn>
+    fn choose(&self, point: PointId, first: usize, end: usize) -> Option<Turn>
         ensures { (p : ℕ) → IsDecided (state_of self.now) p (Some (Instr.Choice point first end)) result }
     {
         match place_of_way(first, end, self.way(point)) {
@@ -144,7 +148,7 @@ impl Run<'_> {
     }
 
     /// The part at this place, or nothing.
-    fn choose_part(&self, point: PointId, body: u32) -> Option<Turn>
+    fn choose_part(&self, point: PointId, body: usize) -> Option<Turn>
         ensures { (p : ℕ) → IsDecided (state_of self.now) p (Some (Instr.Maybe point body)) result }
     {
         match self.way(point) {
@@ -155,7 +159,7 @@ impl Run<'_> {
     }
 
     /// The body of the loop at this place once more and then the loop again, or nothing.
-    fn choose_again(&self, place: u32, point: PointId, body: u32) -> Option<Turn>
+    fn choose_again(&self, place: usize, point: PointId, body: usize) -> Option<Turn>
         ensures { IsDecided (state_of self.now) place (Some (Instr.Loop point body)) result }
     {
         match self.way(point) {
@@ -166,7 +170,7 @@ impl Run<'_> {
     }
 
     /// The body of the loop at this place, and then the loop.
-    fn once(&self, rest: u32) -> Option<Turn>
+    fn once(&self, rest: usize) -> Option<Turn>
         ensures { (p : ℕ) → IsDecided (state_of self.now) p (Some (Instr.Once rest)) result }
     {
         match body_of(self.parser.instr_at(rest)) {
@@ -187,7 +191,7 @@ fn plainly(step: Option<Step>) -> Option<Turn>
 }
 
 /// A step that reads the text of a value.
-fn in_value(number: u32, end: u32, step: Option<Step>) -> Option<Turn>
+fn in_value(number: u32, end: usize, step: Option<Step>) -> Option<Turn>
     ensures { result ≡ option_map (Turn.Value number end) step }
 {
     match step {
@@ -214,29 +218,22 @@ fn doing(places: Places) -> Option<Turn>
 }
 
 /// The place of the body where a loop stands.
-fn body_of(instr: Option<Instr>) -> Option<u32>
+fn body_of(instr: Option<Instr>) -> Option<usize>
     ensures { MatchOption result ((point : PointId) (body : ℕ) → instr ≢ Some (Instr.Loop point body))
         (λ body. (point : PointId) × (instr ≡ Some (Instr.Loop point body))) }
 {
     match instr? {
-        Instr::Loop { body, .. } => Some(body),
+        Instr::Loop { body, .. } => Some(body as usize),
         _ => None,
     }
 }
 
 /// The place of a way, which is counted from one, among those from the first up to the end.
-fn place_of_way(first: u32, end: u32, way: Option<u16>) -> Option<u32>
+fn place_of_way(first: usize, end: usize, way: Option<u16>) -> Option<usize>
     ensures { MatchOption result ((i : ℕ) → way ≡ Some (i + 1) → end ≤ first + i)
         (λ place. (i : ℕ) × (way ≡ Some (i + 1)) × (place ≡ first + i) × (place < end)) }
 {
     let before = way?.checked_sub(1)?;
-    let place = first.checked_add(u32::from(before))?;
+    let place = first.checked_add(usize::from(before))?;
     if place < end { Some(place) } else { None }
-}
-
-/// The place behind another. Where it has no number, memory is wanting.
-fn behind(place: u32) -> Result<u32, NoMemory>
-    ensures { IfOk result (λ next. next ≡ place + 1) }
-{
-    place.checked_add(1).ok_or(NoMemory)
 }

@@ -19,8 +19,9 @@
 //! is no sentence.
 //!
 //! A turn takes constant time and the memory that its places and marks take, and nothing recurses. Most grammars take a few turns for
-//! each visible token. Where each of many fragments calls another twice, a short text can leave more marks than memory holds. That some
-//! turn leaves a mark is not proved: where 2^64 turns in a row leave none, the answer is that memory is wanting.
+//! each visible token. Where each of many fragments calls another twice, a short text can leave more marks than memory holds. Marks are
+//! not counted. That some turn leaves a mark is not proved: turns without one are counted from the last mark on, and
+//! where there are 2^64 in a row, the answer is that memory is wanting.
 //! A search for a fault takes as much time again as keeping the readings does.
 //!
 //! In a folder of its own stands:

@@ -194,10 +194,10 @@ impl Parser {
     }
 
     /// What stands at a place.
-    pub(crate) fn instr_at(&self, place: u32) -> Option<Instr>
+    pub(crate) fn instr_at(&self, place: usize) -> Option<Instr>
         ensures { result ≡ slice_get self.now.program.code place }
     {
-        self.program.code().get(place as usize).copied()
+        self.program.code().get(place).copied()
     }
 
     /// Where a rule starts, if it does.

@@ -21,20 +21,20 @@ use std::alloc::Global;
 pub(crate) struct Run<'p> {
     pub(crate) parser: &'p Parser,
     pub(crate) unread: &'p [KindId],
-    pub(crate) to_do: Vec<u32>,
+    pub(crate) to_do: Vec<usize>,
     pub(crate) marks: Vec<TreeMark>,
 }
 
 impl Run<'_> {
     /// Puts a place before those that are still to be done.
-    fn put(&mut self, place: u32) -> Result<(), NoMemory>
+    fn put(&mut self, place: usize) -> Result<(), NoMemory>
         ensures { OnOk result (state_of self.new ≡ went_on (state_of self.old) [] (place ∷ []) (state_of self.old).unread) }
     {
         Ok(self.to_do.push(place)?)
     }
 
     /// Puts the places from the first up to the end before those that are still to be done.
-    fn put_row(&mut self, first: u32, end: u32) -> Result<(), NoMemory>
+    fn put_row(&mut self, first: usize, end: usize) -> Result<(), NoMemory>
         ensures { OnOk result (state_of self.new ≡ went_on (state_of self.old) [] (side_by_side first (end - first)) (state_of self.old).unread) }
     {
         for place in (first..end).rev() {
@@ -114,8 +114,8 @@ fn behind_first(kinds: &[KindId]) -> &[KindId]
     }
 }
 
-/// So many turns in a row have left no mark, and there is one more, by how many marks there were before and are now. Where the turns have
-/// no number, the answer is that memory is wanting.
+/// So many turns in a row have left no mark, and there is one more, by how many marks there were before and are now. Where it would be the
+/// 2^64th in a row, the answer is that memory is wanting.
 fn without_mark(turns: u64, before: usize, now: usize) -> Result<u64, NoMemory>
     ensures { IfOk result (λ more. ((before < now) × (more ≡ 0)) ⊎ ((now ≤ before) × (more ≡ turns + 1))) }
 {
@@ -142,7 +142,7 @@ pub(crate) fn marks_of<'p>(
         to_do: Vec::new(alloc),
         marks: Vec::new(alloc),
     };
-    let Some(start) = run.call(parser.entry().0)? else {
+    let Some(start) = run.call(parser.entry().0) else {
         return Ok(None);
     };
     run.make(start)?;
@@ -151,7 +151,7 @@ pub(crate) fn marks_of<'p>(
         let Some(place) = run.to_do.pop() else {
             return Ok(run.whole());
         };
-        let Some(turn) = run.decide(place)? else {
+        let Some(turn) = run.decide(place) else {
             return Ok(None);
         };
         let before = run.marks.len();

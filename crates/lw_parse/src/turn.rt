@@ -5,10 +5,10 @@ use lw_program::recipes::TreeMark;
 #[derive(Clone, Copy, Debug)]
 pub(crate) enum Places {
     Nowhere,
-    One(u32),
-    Two(u32, u32),
+    One(usize),
+    Two(usize, usize),
     /// Those from the first up to the end.
-    Row { first: u32, end: u32 },
+    Row { first: usize, end: usize },
 }
 
 /// A mark that is left, if any, and the places that are then to be done. A token that is marked is read.
@@ -22,5 +22,5 @@ pub(crate) struct Step {
 #[derive(Clone, Copy, Debug)]
 pub(crate) enum Turn {
     Plain(Step),
-    Value { number: u32, end: u32, step: Step },
+    Value { number: u32, end: usize, step: Step },
 }

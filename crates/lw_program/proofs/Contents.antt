@@ -22,7 +22,7 @@ use Rattle.lw_reading.specs.Follows.{RefersBy}
 use Rattle.lw_reading.specs.Follows as refers
 use Rattle.lw_numbers.specs.Numbering.{IsNumbered}
 use Rattle.lw_numbers.specs.Numbering as numbered
-use Rattle.lw_program.specs.Making.{IsMadeBy, IsNameForm, text_form}
+use Rattle.lw_program.specs.Making.{IsMadeBy, IsNameForm, IsReference, text_form}
 use Rattle.lw_program.specs.Making as make
 use Rattle.lw_program.specs.Drafted.{IsContentOf}
 use Rattle.lw_program.specs.declared.recipes.recipe.Content.{Content}
@@ -138,15 +138,16 @@ module _ (g : Grammar) where
   -- ---- each with what it is where a reference is to be made
 
   pub truth_content : (op : Op) (c : Value0) → op ≡ Flag → IsContentOf g op c content.Truth
-  truth_content op c flag = (truth_alone op c flag, λ makes. absurd (makes.0 flag))
+  truth_content op c flag = (truth_alone op c flag, λ makes. absurd (makes.0 flag), λ refers. absurd refers)
 
   pub keyword_content : (op : Op) (c : Value0) (word : List ℕ) (s : Span) → op ≢ Flag → out-Value0 c ≡ value.Keyword word s →
       IsContentOf g op c (content.Keyword word)
-  keyword_content op c word s not at = (keyword_alone op c word s not at, λ makes. absurd (let is = makes.1.3 in cc))
+  keyword_content op c word s not at = (keyword_alone op c word s not at, λ makes. absurd (let is = makes.1.3 in cc), λ refers. absurd refers)
 
-  pub call_content : (name : List ℕ) (found : Content) → IsTold g name content.Number (λ name. content.Text (text_form name)) (content.Text Plain) found →
+  pub call_content : (name : List ℕ) (found : Content) → IsTold g name content.Number (λ name. content.Text (text_form name)) (content.Text Plain) found → ¬ IsReference found →
       (op : Op) (c : Value0) (s : Span) → op ≢ Flag → out-Value0 c ≡ value.Call name s → IsContentOf g op c found
-  call_content name found told op c s not at = (call_alone name found told op c s not at, λ makes. absurd (let is = makes.1.3 in cc))
+  call_content name found told none op c s not at =
+      (call_alone name found told op c s not at, λ makes. absurd (let is = makes.1.3 in cc), λ refers. absurd (none refers))
 
   pub cross_content : (type_name : List ℕ) (written : Option (List ℕ)) (want : TypeId) (form : TextForm) →
       ((other : TypeId) → IsNumberOfType g type_name other.0 → want ≡ other) →
@@ -156,4 +157,5 @@ module _ (g : Grammar) where
     cross_alone type_name written (content.Reference want form)
         (λ w name f reads typed formed. ap₂ (λ (w : TypeId) (f : TextForm). content.Reference w f) (wants w typed) (forms name f reads formed)) op c s not at,
     λ makes. tt,
+    λ refers. (not, (type_name, written, s, at)),
   )

@@ -141,6 +141,11 @@ module _ (g : Grammar) where
         let (numbered, content) = is p op c assigned stands in
         let same : own ≡ recipe = same_Some own recipe (sym found ∙ there) in
         subst (λ (r : ValueRecipe). IsReference r.content) same (content.1 makes);
+    only = λ n s p op c at assigned stands recipe there refers.
+        let (own, found, is) = zip_at (IsValueRecipe g) (rule_puts 0 g.rules) draft.values.items are.values n s at in
+        let (numbered, content) = is p op c assigned stands in
+        let same : own ≡ recipe = same_Some own recipe (sym found ∙ there) in
+        content.2 (subst (λ (r : ValueRecipe). IsReference r.content) (sym same) refers);
     actions = λ n s a at stands.
         let (recipe, there, is) = zip_at (IsActionRecipe g) (rule_acts 0 g.rules) draft.actions.items are.actions n s at in
         let (typed, puts) = is a stands in (recipe, there, typed, puts);

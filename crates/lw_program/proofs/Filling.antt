@@ -10,10 +10,15 @@ use Rattle.lw_program.specs.declared.instr.Instr.{Instr}
 use Rattle.lw_program.specs.Says.{Task, StandFrom, SaysTask, SaidAt, NamesLater}
 use Rattle.lw_program.specs.Says as says
 use Rattle.lw_program.specs.Counting.{Sites, no_sites, joined_sites, AreSitesCounted, AreNext}
-use Rattle.lw_program.specs.Filled.{Listing, Want, all_sites, AreWanted, Filled}
+use Rattle.lw_program.specs.Filled.{Listing, Want, all_sites, all_places, AreWanted, Filled}
 use Rattle.lw_program.proofs.Lists.{slice_get_more, slice_get_after}
 use Rattle.lw_program.proofs.Written.{IsWritten}
 use Rattle.lw_program.proofs.Counted.{both_none, all_sites-append, counted_none, counted_both, front_next, rest_next}
+
+-- these and those take as many places as both
+pub places-append : (ws vs : List Want) → all_places (ws ++ vs) ≡ all_places ws + all_places vs
+places-append [] vs = omega arith
+places-append (w ∷ ws) vs = let more = places-append ws vs in omega (arith, more)
 
 abbrev pub tasks_of : List Want → List Task
 tasks_of ws = map (λ w. w.task) ws
@@ -57,6 +62,7 @@ module _ (g : Grammar) (kinds : Kinds) where
   pub fills_none : (first : ℕ) (so_far : Listing) → Filled g kinds [] first so_far so_far
   fills_none first so_far = record {
     grown = omega arith;
+    few = omega arith;
     kept = λ p below beside. refl;
     counted = counted_none so_far.counts;
     said = λ tasks wanted. ([], ap length (append-nil tasks) ∙ wanted.sized, λ p spot below. absurd (nowhere p spot below));
@@ -69,10 +75,13 @@ module _ (g : Grammar) (kinds : Kinds) where
   -- these, and then those behind them
   pub fills_both : {ws vs : List Want} {first : ℕ} {old mid new : Listing} → first + (length ws + length vs) ≤ length old.code →
       Filled g kinds ws first old mid → Filled g kinds vs (first + length ws) mid new → Filled g kinds (ws ++ vs) first old new
-  fills_both {ws} {vs} {first} {old} {mid} {new} inside a b = record { grown = grown; kept = kept; counted = counted; said = said }
+  fills_both {ws} {vs} {first} {old} {mid} {new} inside a b = record { grown = grown; few = few; kept = kept; counted = counted; said = said }
     where
       long : length (ws ++ vs) ≡ length ws + length vs
       long = length-append ws vs
+
+      few : length new.code + length (ws ++ vs) ≤ length old.code + all_places (ws ++ vs)
+      few = let x = a.few in let y = b.few in let l = long in let n = places-append ws vs in omega (arith, x, y, l, n)
 
       grown : length old.code ≤ length new.code
       grown = let x = a.grown in let y = b.grown in omega (arith, x, y)
@@ -147,14 +156,18 @@ module _ (g : Grammar) (kinds : Kinds) where
 
   -- a place, and then those of its parts, which are reserved behind all
   pub fills : (w : Want) (ws : List Want) (own : Sites) (instr : Instr) {place : ℕ} {old mid new : Listing} → place < length old.code →
+      1 + all_places ws ≤ w.most →
       IsWritten place instr (length ws) old.code mid.code → AreSitesCounted own old.counts mid.counts → w.sites ≡ joined_sites own (all_sites ws) →
       (IsPartAt g w.site w.part → (i : ℕ) (x : Want) → slice_get ws i ≡ Some x → IsPartAt g x.site x.part) → NamesLater place instr →
       ((tasks : List Task) → IsPartAt g w.site w.part → AreNext g old.counts own →
       ((i : ℕ) (x : Want) → slice_get ws i ≡ Some x → slice_get tasks (length old.code + i) ≡ Some x.task) → SaysTask g kinds tasks w.task instr) →
       Filled g kinds ws (length old.code) mid new → Filled g kinds (w ∷ []) place old new
-  fills w ws own instr {place} {old} {mid} {new} inside written own_counted sites parts later says rest =
-      record { grown = grown; kept = kept; counted = counted; said = said }
+  fills w ws own instr {place} {old} {mid} {new} inside most written own_counted sites parts later says rest =
+      record { grown = grown; few = few; kept = kept; counted = counted; said = said }
     where
+      few : length new.code + 1 ≤ length old.code + all_places (w ∷ [])
+      few = let a = written.sized in let b = rest.few in omega (arith, a, b, most)
+
       grown : length old.code ≤ length new.code
       grown = let a = written.sized in let b = rest.grown in omega (arith, a, b)
 
@@ -236,9 +249,9 @@ module _ (g : Grammar) (kinds : Kinds) where
               ]
 
   -- a place where this instruction stands already
-  pub stays_filled : (w : Want) (instr : Instr) {place : ℕ} (so_far : Listing) → place < length so_far.code → slice_get so_far.code place ≡ Some instr →
+  pub stays_filled : (w : Want) (instr : Instr) {place : ℕ} (so_far : Listing) → place < length so_far.code → 1 ≤ w.most → slice_get so_far.code place ≡ Some instr →
       w.sites ≡ no_sites → NamesLater place instr → ((tasks : List Task) → IsPartAt g w.site w.part → SaysTask g kinds tasks w.task instr) →
       Filled g kinds (w ∷ []) place so_far so_far
-  stays_filled w instr {place} so_far inside is none later says =
-      fills w [] no_sites instr inside record { sized = omega arith; here = is; kept = λ p below other. refl } (counted_none so_far.counts) none
+  stays_filled w instr {place} so_far inside most is none later says =
+      fills w [] no_sites instr inside (omega (arith, most)) record { sized = omega arith; here = is; kept = λ p below other. refl } (counted_none so_far.counts) none
       (λ stands i x same. absurd (none-some x same)) later (λ tasks stands next there. says tasks stands) (fills_none (length so_far.code) so_far)

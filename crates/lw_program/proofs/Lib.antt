@@ -8,7 +8,8 @@ pub mod ElementForms
 pub mod ValueForms
 pub mod Rows
 pub mod Starting
-pub mod Building
+pub mod Room
+mod Building
 pub mod Reaching
 pub mod OnePlace
 pub mod Contents

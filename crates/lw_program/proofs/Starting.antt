@@ -1,11 +1,12 @@
 -- A rule's body, put behind all places, and the end of its node.
-use Rattle.std.proofs.Common.{◌≡◌, ℕ, zero, suc, ◌+◌, ◌<◌, ◌≤◌, List, [], ◌∷◌, ◌++◌, Bool, true, false, Some, option_map, length, slice_get, refl, sym, ap, ◌∙◌, subst, arith, ◌⊎◌, inl, inr, true≢false}
+use Rattle.std.proofs.Common.{◌≡◌, ℕ, zero, suc, ◌+◌, ◌*◌, ◌<◌, ◌≤◌, List, [], ◌∷◌, ◌++◌, Bool, true, false, Some, option_map, length, slice_get, refl, sym, ap, ◌∙◌, subst, arith, ◌⊎◌, inl, inr, true≢false}
 use Rattle.std.proofs.lemmas.List.{length-append, length-map, append_assoc}
 use Rattle.std.proofs.lemmas.Option.{slice_get-map, none-some, same_Some}
 use Rattle.std.proofs.lemmas.Bool.{cases_lt}
 use Rattle.lw_grammar.specs.declared.grammar.Grammar.{Grammar}
 use Rattle.lw_grammar.specs.declared.rule.Element.{Element}
 use Rattle.lw_grammar.specs.Kinds.{Kinds}
+use Rattle.lw_grammar.specs.Size.{element_size}
 use Rattle.lw_grammar.specs.Marks as mark
 use Rattle.lw_look.specs.Sites.{PartSite, Body, IsPartAt}
 use Rattle.lw_look.specs.Things.{Leave}
@@ -13,7 +14,7 @@ use Rattle.lw_program.specs.declared.instr.Instr.TheVariants.{End, Shut}
 use Rattle.lw_program.specs.Says.{Task, Does, SaidAt}
 use Rattle.lw_program.specs.Says as says
 use Rattle.lw_program.specs.Counting.{no_sites, element_sites, AreSitesCounted, AreNext}
-use Rattle.lw_program.specs.Filled.{Listing, Want, element_want, all_sites, Filled}
+use Rattle.lw_program.specs.Filled.{Listing, Want, element_want, all_sites, all_places, Filled}
 use Rattle.lw_program.specs.Placed.{PlacesMore, IsStarted, ending}
 use Rattle.lw_program.proofs.Lists.{slice_get_more, slice_get_before, slice_get_after}
 use Rattle.lw_program.proofs.Counted.{both_none}
@@ -21,7 +22,7 @@ use Rattle.lw_program.proofs.Filling.{tasks_of, fills_both, stays_filled}
 
 -- the end of the node of what stands at a site
 abbrev shut_want : PartSite → Element → Want
-shut_want s e = record { site = s; part = Body e; task = Does (Leave mark.Shut); sites = no_sites }
+shut_want s e = record { site = s; part = Body e; task = Does (Leave mark.Shut); sites = no_sites; most = 1 }
 
 abbrev body_wants : PartSite → Element → Bool → List Want
 body_wants s e true = element_want s e ∷ shut_want s e ∷ []
@@ -34,6 +35,10 @@ body_sites s e false = both_none (element_sites s e)
 body_length : (s : PartSite) (e : Element) (shuts : Bool) → length (body_wants s e shuts) ≡ length (End ∷ ending shuts)
 body_length s e true = refl
 body_length s e false = refl
+
+body_places : (s : PartSite) (e : Element) (shuts : Bool) → all_places (body_wants s e shuts) ≤ 1 + 3 * element_size e
+body_places s e true = omega arith
+body_places s e false = omega arith
 
 body_whole : (s : PartSite) (e : Element) (shuts : Bool) → slice_get (body_wants s e shuts) 0 ≡ Some (element_want s e)
 body_whole s e true = refl
@@ -57,7 +62,7 @@ module _ (g : Grammar) (kinds : Kinds) where
       Filled g kinds (element_want s e ∷ []) start mid new → Filled g kinds (body_wants s e shuts) start mid new
   fills_body s e true old {start} {mid} {new} at code filled =
       fills_both g kinds {ws = element_want s e ∷ []} {vs = shut_want s e ∷ []} (omega (arith, long, at)) filled
-      (stays_filled g kinds (shut_want s e) Shut new (let a = filled.grown in omega (arith, a, long, at)) shut refl tt (λ tasks stands. says.shuts))
+      (stays_filled g kinds (shut_want s e) Shut new (let a = filled.grown in omega (arith, a, long, at)) (omega arith) shut refl tt (λ tasks stands. says.shuts))
     where
       long : length mid.code ≡ length old.code + 2
       long = ap length code ∙ length-append old.code (End ∷ Shut ∷ [])
@@ -73,7 +78,7 @@ module _ (g : Grammar) (kinds : Kinds) where
   pub starts : (s : PartSite) (e : Element) (shuts : Bool) {start : ℕ} {old mid new : Listing} → start ≡ length old.code →
       mid.code ≡ old.code ++ (End ∷ ending shuts) → mid.counts ≡ old.counts → Filled g kinds (element_want s e ∷ []) start mid new →
       IsStarted g kinds s e shuts start old new
-  starts s e shuts {start} {old} {mid} {new} at code counts body_filled = record { grown = grown; kept = kept; counted = counted; said = said }
+  starts s e shuts {start} {old} {mid} {new} at code counts body_filled = record { grown = grown; few = few; kept = kept; counted = counted; said = said }
     where
       ws : List Want
       ws = body_wants s e shuts
@@ -86,6 +91,9 @@ module _ (g : Grammar) (kinds : Kinds) where
 
       grown : length old.code ≤ length new.code
       grown = let a = filled.grown in let l = long in omega (arith, a, l)
+
+      few : length new.code ≤ length old.code + 1 + 3 * element_size e
+      few = let a = filled.few in let l = long in let m = body_places s e shuts in omega (arith, a, l, m)
 
       kept : (p : ℕ) → p < length old.code → slice_get new.code p ≡ slice_get old.code p
       kept p below =

@@ -49,9 +49,10 @@ module _ (g : Grammar) where
 
   -- ---- what is made
 
-  -- all that may be made of c is this, and it is a reference where c is to be one
+  -- all that may be made of c is this, and it is a reference exactly where c is to be one
   abbrev pub IsContentOf : Op → Value0 → Content → Type 0
   IsContentOf op c content = ((other : Content) → IsMadeBy g op c other → content ≡ other) × (MakesReference op c → IsReference content)
+      × (IsReference content → MakesReference op c)
 
   abbrev pub IsValueRecipe : PartSite → ValueRecipe → Type 0
   IsValueRecipe s recipe =

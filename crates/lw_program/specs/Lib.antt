@@ -8,3 +8,4 @@ pub mod Placed
 pub mod Meant
 pub mod Making
 pub mod Drafted
+pub mod Room

@@ -78,6 +78,8 @@ module _ (g : Grammar) where
         × ((content : Content) → IsMadeBy op c content → recipe.content ≡ content)
     pub references : (n : ℕ) (s : PartSite) (p : List ℕ) (op : Op) (c : Value0) → slice_get (put_sites g) n ≡ Some s → AssignedAt g s p op →
         IsPartAt g s (Value c) → MakesReference op c → (recipe : ValueRecipe) → slice_get recipes.made n ≡ Some recipe → IsReference recipe.content
+    pub only : (n : ℕ) (s : PartSite) (p : List ℕ) (op : Op) (c : Value0) → slice_get (put_sites g) n ≡ Some s → AssignedAt g s p op →
+        IsPartAt g s (Value c) → (recipe : ValueRecipe) → slice_get recipes.made n ≡ Some recipe → IsReference recipe.content → MakesReference op c
     pub actions : (n : ℕ) (s : PartSite) (a : Action) → slice_get (act_sites g) n ≡ Some s → ElementAt g s (layer.Act a) →
         (recipe : ActionRecipe) × (slice_get recipes.done n ≡ Some recipe) × IsNumberOfType g a.type_name recipe.type_id.0
         × IsPutNumber a.put recipe.put

@@ -1,9 +1,10 @@
 -- What placing a rule does: behind all places stand its body and, where it is to be shut, the end of a node. A rule that is left out is
 -- counted alone.
-use Rattle.std.specs.Prelude.{ℕ, ◌≡◌, ◌+◌, ◌<◌, ◌≤◌, ◌++◌, List, [], ◌∷◌, Bool, true, false, Option, Some, None, slice_get, length}
+use Rattle.std.specs.Prelude.{ℕ, ◌≡◌, ◌+◌, ◌*◌, ◌<◌, ◌≤◌, ◌++◌, List, [], ◌∷◌, Bool, true, false, Option, Some, None, slice_get, length}
 use Rattle.lw_grammar.specs.declared.grammar.Grammar.{Grammar}
 use Rattle.lw_grammar.specs.declared.rule.Element.{Element}
 use Rattle.lw_grammar.specs.Kinds.{Kinds}
+use Rattle.lw_grammar.specs.Size.{element_size}
 use Rattle.lw_grammar.specs.Marks as mark
 use Rattle.lw_look.specs.Sites.{PartSite, Body, IsPartAt}
 use Rattle.lw_look.specs.Things.{Leave}
@@ -29,6 +30,7 @@ module _ (g : Grammar) (kinds : Kinds) (s : PartSite) (e : Element) where
 
   pub record IsStarted (shuts : Bool) (start : ℕ) (old new : Listing) : Type 0 where
     pub grown : length old.code ≤ length new.code
+    pub few : length new.code ≤ length old.code + 1 + 3 * element_size e
     pub kept : (p : ℕ) → p < length old.code → slice_get new.code p ≡ slice_get old.code p
     pub counted : AreSitesCounted (element_sites s e) old.counts new.counts
     pub said : (tasks : List Task) → IsPartAt g s (Body e) → length tasks ≡ length old.code → AreNext g old.counts (element_sites s e) →

@@ -1,11 +1,13 @@
 // A body as instructions: places are reserved for the parts of a whole, and then filled.
-ghost use Rattle.std.specs.Prelude.{ℕ, List, ◌≡◌, ◌+◌, ◌<◌, ◌≤◌, ◌∷◌, [], length, IfOk, OnOk};
+ghost use Rattle.std.specs.Prelude.{ℕ, List, ◌≡◌, ◌+◌, ◌<◌, ◌≤◌, ◌∷◌, [], length, map, sum, IfOk, OnOk};
 ghost use Rattle.lw_grammar.specs.declared.rule.Op.{Op};
 ghost use Rattle.lw_grammar.specs.Kinds.{Kinds, AreKinds};
 ghost use Rattle.lw_look.specs.Sites.{PartSite, Body, Value};
 ghost use Rattle.lw_kinds.specs.LexiconKnown.{IsKnownLexicon};
 ghost use Rattle.lw_program.specs.Reach.{IsComplete, IsInReach, AreInReach};
+ghost use Rattle.lw_grammar.specs.Size.{element_size, value_size};
 ghost use Rattle.lw_program.specs.Filled.{Filled, listing, element_want, value_want, wants_from};
+ghost use Rattle.lw_program.specs.Room.{HasRoom};
 
 use crate::Instr;
 use crate::counts::Counts;
@@ -34,6 +36,7 @@ impl Draft {
         requires complete { IsComplete lexicon.g.now }
         requires reach { IsInReach lexicon.g.now (Body element.now) }
         requires inside { place < length self.old.code.items }
+        requires room { HasRoom 1 (element_size element.now) (listing self.old) }
         ensures { (kinds : Kinds) (s : PartSite) → AreKinds lexicon.entry.g.now kinds →
             OnOk result (Filled lexicon.entry.g.now kinds (element_want s element.now ∷ []) place (listing self.old) (listing self.new)) }
     {
@@ -48,7 +51,7 @@ impl Draft {
             }
             Element::Assign(_, _, value, _) => self.value(lexicon, place, value),
             Element::Act(_) => {
-                self.code[place] = Instr::Act(self.counts.next_act()?);
+                self.code[place] = Instr::Act(self.counts.next_act());
                 Ok(())
             }
             Element::Group(parts, _) => {
@@ -87,6 +90,7 @@ impl Draft {
         requires complete { IsComplete lexicon.g.now }
         requires reach { AreInReach lexicon.g.now Body elements.now }
         requires inside { first + length elements.now ≤ length self.old.code.items }
+        requires room { HasRoom (length elements.now) (sum (map element_size elements.now)) (listing self.old) }
         ensures { (kinds : Kinds) (s : PartSite) → AreKinds lexicon.entry.g.now kinds →
             OnOk result (Filled lexicon.entry.g.now kinds (wants_from element_want s 0 elements.now) first (listing self.old) (listing self.new)) }
     {
@@ -103,6 +107,7 @@ impl Draft {
         requires complete { IsComplete lexicon.g.now }
         requires reach { IsInReach lexicon.g.now (Value value.now) }
         requires inside { place < length self.old.code.items }
+        requires room { HasRoom 1 (value_size value.now) (listing self.old) }
         ensures { (kinds : Kinds) (p : List ℕ) (op : Op) (s : PartSite) → AreKinds lexicon.entry.g.now kinds →
             OnOk result (Filled lexicon.entry.g.now kinds (value_want p op s value.now ∷ []) place (listing self.old) (listing self.new)) }
     {
@@ -138,6 +143,7 @@ impl Draft {
         requires complete { IsComplete lexicon.g.now }
         requires reach { AreInReach lexicon.g.now Value values.now }
         requires inside { first + length values.now ≤ length self.old.code.items }
+        requires room { HasRoom (length values.now) (sum (map value_size values.now)) (listing self.old) }
         ensures { (kinds : Kinds) (p : List ℕ) (op : Op) (s : PartSite) → AreKinds lexicon.entry.g.now kinds →
             OnOk result (Filled lexicon.entry.g.now kinds (wants_from (value_want p op) s 0 values.now) first (listing self.old) (listing self.new)) }
     {

@@ -15,11 +15,10 @@
 //! a table can be kept for each. They are the places in the lists of those of the whole grammar
 //! (`specs/Numbered.antt`), so that what cannot be reached is counted too.
 //!
-//! This is said of a grammar of which every keyword has a kind and every call gives something. No clause says that
-//! [`Program::of`] refuses for no other cause than memory.
+//! This is said of a grammar of which every keyword has a kind and every call gives something.
 //!
-//! Numbers and places are of fixed widths. Where one would not fit, the answer is that memory is wanting. No grammar of the size that
-//! [`Program::of`] asks for comes to that, which is not proved.
+//! Numbers and places are of fixed widths, and there are enough of them for a grammar of the size that [`Program::of`] asks for
+//! (`specs/Room.antt`). An allocation that is refused is then the only cause of an error, which no clause says.
 //!
 //! [`Program::of`] takes time and memory linear in the size of the grammar, but for the expected constant time in which a name is looked
 //! up. An element or a value takes at most three instructions.

@@ -36,5 +36,3 @@ size-Many part = size_of _ _ (term.outs-Many part)
 
 pub size-Some1 : (part : TermElement) → term_size (term.Some1 part) ≡ 1 + term_size part
 size-Some1 part = size_of _ _ (term.outs-Some1 part)
-
-pub ruleset sizes_of_terms = (size-Literal, size-Range, size-Pattern, size-Call, size-Group, size-Choice, size-Maybe, size-Many, size-Some1)

@@ -60,7 +60,7 @@ fn empty_sets(alloc: Global, count: usize) -> Result<Vec<TypeSet>, NoMemory>
 }
 
 /// Puts a type into its own set, and into those of the types above it.
-fn put_low(sets: &mut Vec<TypeSet>, low: u16, above: &[u32]) -> Result<(), NoMemory>
+fn put_low(sets: &mut Vec<TypeSet>, low: u16, above: &[usize]) -> Result<(), NoMemory>
     requires { low < length sets.old.items }
     ensures { OnOk result (WidensSets (λ high. (high ≡ low) ⊎ Contains above.now high) low sets.old.items sets.new.items) }
 {
@@ -69,11 +69,11 @@ fn put_low(sets: &mut Vec<TypeSet>, low: u16, above: &[u32]) -> Result<(), NoMem
 }
 
 /// Puts a type into the sets of these that have one.
-fn put_above(sets: &mut Vec<TypeSet>, low: u16, above: &[u32]) -> Result<(), NoMemory>
+fn put_above(sets: &mut Vec<TypeSet>, low: u16, above: &[usize]) -> Result<(), NoMemory>
     ensures { OnOk result (WidensSets (Contains above.now) low sets.old.items sets.new.items) }
 {
     for high in above {
-        put_if_there(sets, *high as usize, low)?;
+        put_if_there(sets, *high, low)?;
     }
     Ok(())
 }

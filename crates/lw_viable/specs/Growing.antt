@@ -37,14 +37,14 @@ pub record GrowsLists (old new : Lists) : Type 0 where
 
 -- how many cells may still be put in
 abbrev pub room : Lists → ℕ
-room lists = (2 ^ 32 - length lists.marks) + (2 ^ 32 - length lists.rests)
+room lists = (2 ^ 64 - length lists.marks) + (2 ^ 64 - length lists.rests)
 
 -- the front that was made of another by so many cells, and what is read by it
 pub record IsMadeFront (cells : ℕ) (old new : Lists) (front made : Front) (reading : KeptReading) : Type 0 where
   pub within : HasLists new made
   pub is : read new made ≡ reading
   pub spent : room new + cells ≤ room old
-  pub fits : made.rest.0 < 2 ^ 32
+  pub fits : made.rest.0 < 2 ^ 64
   pub none : cells ≡ 0 → made ≡ front
 
 -- a mark behind the others, if any, and places before those that are still to be done
@@ -62,7 +62,7 @@ abbrev pub weight_of : Front → ℕ
 weight_of front = front.rest.0 + 1
 
 abbrev pub cell_weight : ℕ
-cell_weight = 2 ^ 34
+cell_weight = 2 ^ 66
 
 -- what these fronts and the cells that may still be put in weigh
 abbrev pub fronts_weight : Lists → List Front → ℕ

@@ -11,7 +11,7 @@
 //! memory is refused. [`Chains::first`] gives back what was put, and a list of a lesser number, so that a walk down a list ends.
 //!
 //! Each call takes constant time, [`Chains::put`] on average over many. An item that is put takes one cell, however many lists have
-//! it. There are fewer than 2^32 lists.
+//! it. A list is named by a `usize`, so that only an allocation that is refused is an error.
 mod cell;
 mod chains;
 

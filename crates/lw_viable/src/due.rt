@@ -58,14 +58,18 @@ fn is_reference(recipes: &Recipes, put: u32) -> bool
 }
 
 /// The value that is put at the first place of a reading: its number, the place where it is read, and the reading behind that first place.
-pub(crate) fn first_put(program: &Program, lists: &Lists, front: Front) -> Option<(u32, u32, Front)>
+pub(crate) fn first_put(
+    program: &Program,
+    lists: &Lists,
+    front: Front,
+) -> Option<(u32, usize, Front)>
     requires { HasLists lists.now front }
     ensures { MatchOption result ((put value : ℕ) (behind : List ℕ) → ¬ PutsFirst program.now (read lists.now front).rest put value behind)
         (λ first. PutsFirst program.now (read lists.now front).rest first.0 first.1 (read lists.now first.2).rest) }
 {
     let (place, behind) = lists.first(front)?;
     match instr_at(program, place)? {
-        Instr::Put { put, first } => Some((put, first, behind)),
+        Instr::Put { put, first } => Some((put, first as usize, behind)),
         _ => None,
     }
 }

@@ -84,7 +84,7 @@ impl<'p> Fronts<'p> {
         alloc: Global,
         program: &'p Program,
         begins: &'p Begins,
-        places: &[u32],
+        places: &[usize],
     ) -> Result<Fronts<'p>, NoMemory>
         requires known { (g : Grammar) × (kinds : Kinds) × (tasks : List Task) × IsProgramWith g kinds tasks program.now begins.now
             × All (HasTask g kinds tasks) places.now }

@@ -31,12 +31,13 @@
 //! choice, until it stands before a token: of the kind that was read it is kept, of another it is dropped. A call is passed over where the
 //! kind can neither begin it nor come behind it. Where a reference is looked for, or the end of a value or of all, no kind is sought: no
 //! call is passed over, and a reading is found wherever what is looked for stands first (`specs/Visiting.antt`). Nothing recurses, and that
-//! it ends is shown by the cells of the lists, of which there are fewer than 2^32. Where there would be more, the answer is that memory is
-//! wanting. A short text can come to that, where each of many fragments calls another twice.
+//! it ends is shown by the cells of the lists, since no list has a number past the last `usize`. A place and a list are named by a `usize`,
+//! so that no number is wanting. The only error is want of memory: an allocation was refused. A short text can come to that, where each of
+//! many fragments calls another twice.
 //!
 //! What it costs. A step is linear in what these moves come to; so are `references`, `sentences` and `readings`, and in what they hand out;
 //! `expected` takes a step for each kind; `complete` is linear in what is still to be done. Marks and places are lists that share their
-//! ends, twelve bytes a cell at most, and are given back with the whole. What is asked puts cells on these lists too, so for many questions
+//! ends, sixteen bytes a cell at most, and are given back with the whole. What is asked puts cells on these lists too, so for many questions
 //! at one place ask each once.
 //!
 //! In folders of their own stand:

@@ -18,7 +18,7 @@ use std::alloc::Global;
 #[derive(Drop)]
 pub(crate) struct Lists {
     pub(crate) marks: Chains<TreeMark>,
-    pub(crate) rests: Chains<u32>,
+    pub(crate) rests: Chains<usize>,
 }
 
 impl Lists {
@@ -33,7 +33,7 @@ impl Lists {
     }
 
     /// The first place that is still to be done, and the reading behind it.
-    pub(crate) fn first(&self, front: Front) -> Option<(u32, Front)>
+    pub(crate) fn first(&self, front: Front) -> Option<(usize, Front)>
         requires { HasLists self.now front }
         ensures { MatchOption result ((read self.now front).rest ≡ [])
             (λ first. HasLists self.now first.1
@@ -70,7 +70,7 @@ impl Lists {
     }
 
     /// A reading with a place before those that are still to be done.
-    fn place(&mut self, front: Front, place: u32) -> Result<Front, NoMemory>
+    fn place(&mut self, front: Front, place: usize) -> Result<Front, NoMemory>
         requires { HasLists self.old front }
         ensures grows { GrowsLists self.old self.new }
         ensures made { IfOk result (λ made. IsMadeFront 1 self.old self.new front made (changed (read self.old front) (None, place ∷ []))) }
@@ -83,7 +83,7 @@ impl Lists {
     }
 
     /// A reading with these places before those that are still to be done.
-    fn places(&mut self, front: Front, places: &[u32]) -> Result<Front, NoMemory>
+    fn places(&mut self, front: Front, places: &[usize]) -> Result<Front, NoMemory>
         requires { HasLists self.old front }
         ensures grows { GrowsLists self.old self.new }
         ensures made { IfOk result (λ made. IsMadeFront (length places.now) self.old self.new front made (changed (read self.old front) (None, places.now))) }
@@ -96,7 +96,7 @@ impl Lists {
     }
 
     /// A reading with the places from the first up to the end before those that are still to be done.
-    fn row(&mut self, front: Front, first: u32, end: u32) -> Result<Front, NoMemory>
+    fn row(&mut self, front: Front, first: usize, end: usize) -> Result<Front, NoMemory>
         requires { HasLists self.old front }
         ensures grows { GrowsLists self.old self.new }
         ensures made { IfOk result (λ made. IsMadeFront (end - first) self.old self.new front made (changed (read self.old front) (None, side_by_side first (end - first)))) }
@@ -113,7 +113,7 @@ impl Lists {
         &mut self,
         front: Front,
         mark: Option<TreeMark>,
-        places: &[u32],
+        places: &[usize],
     ) -> Result<Front, NoMemory>
         requires { HasLists self.old front }
         ensures grows { GrowsLists self.old self.new }
@@ -129,7 +129,7 @@ impl Lists {
         fronts: &mut Vec<Front>,
         front: Front,
         mark: Option<TreeMark>,
-        places: &[u32],
+        places: &[usize],
     ) -> Result<(), NoMemory>
         requires { HasLists self.old front }
         ensures grows { GrowsLists self.old self.new }
@@ -144,8 +144,8 @@ impl Lists {
         &mut self,
         fronts: &mut Vec<Front>,
         front: Front,
-        first: u32,
-        end: u32,
+        first: usize,
+        end: usize,
     ) -> Result<(), NoMemory>
         requires { HasLists self.old front }
         ensures grows { GrowsLists self.old self.new }
@@ -160,8 +160,8 @@ impl Lists {
         &mut self,
         fronts: &mut Vec<Front>,
         front: Front,
-        first: u32,
-        end: u32,
+        first: usize,
+        end: usize,
     ) -> Result<(), NoMemory>
         requires { HasLists self.old front }
         ensures grows { GrowsLists self.old self.new }
@@ -178,7 +178,7 @@ impl Lists {
         &mut self,
         fronts: &mut Vec<Front>,
         front: Front,
-        places: &[u32],
+        places: &[usize],
     ) -> Result<(), NoMemory>
         requires { HasLists self.old front }
         ensures grows { GrowsLists self.old self.new }
@@ -198,7 +198,7 @@ impl Lists {
     }
 
     /// The places that a reading still has to do, in order.
-    pub(crate) fn places_of(&self, alloc: Global, front: Front) -> Result<Items<u32>, NoMemory>
+    pub(crate) fn places_of(&self, alloc: Global, front: Front) -> Result<Items<usize>, NoMemory>
         ensures { IfOk result (λ places. places ≡ (read self.now front).rest) }
     {
         Ok(Items::from_vec(listed(alloc, &self.rests, front.rest)?))
@@ -273,7 +273,7 @@ impl Lists {
     {
         let mut rest = front;
         'places: while let Some((place, behind)) = self.first(rest) {
-            if !begins.may_be_empty(place as usize) {
+            if !begins.may_be_empty(place) {
                 return false;
             }
             rest = behind;

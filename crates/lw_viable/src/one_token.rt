@@ -16,7 +16,7 @@ use lw_program::{Instr, Program};
 
 /// The kind of the token that stands at this place, if one stands there: then what the place gives is that token and nothing else, which
 /// tells without any readings what tokens it may read. Constant time.
-pub fn only_token(program: &Program, place: u32) -> Option<KindId>
+pub fn only_token(program: &Program, place: usize) -> Option<KindId>
     ensures token { MatchOption result ((kind : Kind) → slice_get program.now.code place ≢ Some (Instr.Token kind))
         (λ kind. slice_get program.now.code place ≡ Some (Instr.Token kind)) }
     ensures only { (g : Grammar) (kinds : Kinds) (tasks : List Task) (begins : BeginsParts) → IsProgramWith g kinds tasks program.now begins →

@@ -1,15 +1,14 @@
 // What stands at the places of a program.
-ghost use Rattle.std.specs.Prelude.{ℕ, ◌≡◌, ◌≢◌, ◌+◌, Some, IfOk, MatchOption, slice_get};
+ghost use Rattle.std.specs.Prelude.{ℕ, ◌≡◌, ◌≢◌, Some, MatchOption, slice_get};
 ghost use Rattle.lw_base.specs.declared.numbers.PointId.{PointId};
 
-use lw_base::NoMemory;
 use lw_program::{Instr, Program};
 
 /// What stands at a place.
-pub(crate) fn instr_at(program: &Program, place: u32) -> Option<Instr>
+pub(crate) fn instr_at(program: &Program, place: usize) -> Option<Instr>
     ensures { result ≡ slice_get program.now.code place }
 {
-    program.code().get(place as usize).copied()
+    program.code().get(place).copied()
 }
 
 /// The place of the body where a loop stands.
@@ -29,11 +28,4 @@ pub(crate) fn start_of(program: &Program, rule: u16) -> Option<u32>
         (λ start. slice_get program.now.starts rule ≡ Some (Some start)) }
 {
     program.starts().get(rule as usize).copied().flatten()
-}
-
-/// The place behind another. Where it has no number, memory is wanting.
-pub(crate) fn behind(place: u32) -> Result<u32, NoMemory>
-    ensures { IfOk result (λ next. next ≡ place + 1) }
-{
-    place.checked_add(1).ok_or(NoMemory)
 }

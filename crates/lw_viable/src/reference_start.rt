@@ -21,9 +21,9 @@ pub struct ReferenceStart {
     /// The number of its `Put`.
     pub put: u32,
     /// The place at which its value is read.
-    pub value: u32,
+    pub value: usize,
     /// The places that are to be done behind its `End`, one after another.
-    pub behind: Items<u32>,
+    pub behind: Items<usize>,
 }
 
 impl ReferenceStart {

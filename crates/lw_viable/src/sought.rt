@@ -13,7 +13,7 @@ use crate::begins::Begins;
 use crate::due::Due;
 use crate::front::Front;
 use crate::lists::Lists;
-use crate::places::{behind, body_of, instr_at, start_of};
+use crate::places::{body_of, instr_at, start_of};
 use lw_base::{KindId, NoMemory, RuleId};
 use lw_program::recipes::TreeMark;
 use lw_program::{Instr, Program};
@@ -83,9 +83,9 @@ impl Sought<'_> {
         ensures put { OnOk result ((changes : List Change) × LoopsOnce self.entry.program.now rest changes
             × ArePut changes lists.old lists.new front work.old.items work.new.items) }
     {
-        match body_of(instr_at(self.program, rest)) {
+        match body_of(instr_at(self.program, rest as usize)) {
             None => Ok(()),
-            Some(body) => lists.put(work, front, None, &[body, rest]),
+            Some(body) => lists.put(work, front, None, &[body as usize, rest as usize]),
         }
     }
 
@@ -111,7 +111,7 @@ impl Sought<'_> {
     /// What stands at a place, behind which a reading goes on.
     fn moves(
         self,
-        place: u32,
+        place: usize,
         lists: &mut Lists,
         front: Front,
         work: &mut Vec<Front>,
@@ -128,14 +128,25 @@ impl Sought<'_> {
             Some(Instr::End) => lists.put(work, front, Some(TreeMark::End), &[]),
             Some(Instr::Shut) => lists.put(work, front, Some(TreeMark::Shut), &[]),
             Some(Instr::Act(number)) => lists.put(work, front, Some(TreeMark::Act(number)), &[]),
-            Some(Instr::Row { first, end }) => lists.put_row(work, front, first, end),
-            Some(Instr::Choice { first, end, .. }) => lists.put_ways(work, front, first, end),
-            Some(Instr::Maybe { body, .. }) => lists.put_either(work, front, &[body]),
-            Some(Instr::Loop { body, .. }) => lists.put_either(work, front, &[body, place]),
+            Some(Instr::Row { first, end }) => lists.put_row(
+                work,
+                front,
+                first as usize,
+                end as usize,
+            ),
+            Some(Instr::Choice { first, end, .. }) => {
+                lists.put_ways(work, front, first as usize, end as usize)
+            }
+            Some(Instr::Maybe { body, .. }) => lists.put_either(work, front, &[body as usize]),
+            Some(Instr::Loop { body, .. }) => lists.put_either(
+                work,
+                front,
+                &[body as usize, place],
+            ),
             Some(Instr::Once { rest }) => self.once(rest, lists, front, work),
             Some(Instr::Put { put, first }) => {
-                let end = behind(first)?;
-                lists.put(work, front, Some(TreeMark::Put(put)), &[first, end])
+                let places = [first as usize, first as usize + 1];
+                lists.put(work, front, Some(TreeMark::Put(put)), &places)
             }
             Some(Instr::Call { rule }) => self.call(rule, lists, front, work),
         }
@@ -248,14 +259,9 @@ pub(crate) fn enter(
         × ArePut (change ∷ []) lists.old lists.new front fronts.old.items fronts.new.items) }
 {
     if begins.makes_node(rule as usize) {
-        let end = behind(start)?;
-        lists.put(
-            fronts,
-            front,
-            Some(TreeMark::Open(RuleId(rule))),
-            &[start, end],
-        )
+        let places = [start as usize, start as usize + 1];
+        lists.put(fronts, front, Some(TreeMark::Open(RuleId(rule))), &places)
     } else {
-        lists.put(fronts, front, None, &[start])
+        lists.put(fronts, front, None, &[start as usize])
     }
 }

@@ -133,14 +133,14 @@ fn put_above(
 fn put_each(
     alloc: Global,
     subtypes: &Subtypes,
-    numbers: &[u32],
+    numbers: &[usize],
     name: &Name,
     called: &mut IndexMap<Name, Name>,
 ) -> Result<(), NoMemory>
     ensures { OnOk result (PutsNames (IsNumberedIn subtypes.now.names numbers.now) name.now called.old.entries called.new.entries) }
 {
     for number in numbers {
-        put_numbered(alloc, subtypes, *number as usize, name, called)?;
+        put_numbered(alloc, subtypes, *number, name, called)?;
     }
     Ok(())
 }

@@ -22,7 +22,7 @@ use std::marker::Model;
 pub struct Subtypes {
     names: IndexSet<Name>,
     /// By the number of a type, the numbers of those that it is below, in ascending order.
-    above: Vec<Items<u32>>,
+    above: Vec<Items<usize>>,
 }
 
 impl Drop for Subtypes {
@@ -33,7 +33,7 @@ impl Drop for Subtypes {
 }
 
 impl Model for Subtypes {
-    ghost use Rattle.std.specs.Prelude.{◌≡◌, ◌≤◌, length};
+    ghost use Rattle.std.specs.Prelude.{◌≡◌, length};
     ghost use Rattle.std.specs.List.{All, IsDistinct};
     ghost use Rattle.std.specs.Str.{bytes_eq};
     ghost use Rattle.lw_numbers.specs.Kinship.{TypeTable};
@@ -43,13 +43,12 @@ impl Model for Subtypes {
 
     ghost view = { λ a. record { names = a.names.keys; above = a.above.items } };
 
-    ghost invariant = { λ a. (length a.names.keys ≤ 4294967295) × IsDistinct bytes_eq a.names.keys × (length a.above.items ≡ length a.names.keys) × All IsAscending a.above.items };
+    ghost invariant = { λ a. IsDistinct bytes_eq a.names.keys × (length a.above.items ≡ length a.names.keys) × All IsAscending a.above.items };
 }
 
 /// By the number of a type, the numbers of those that are reached from it.
-fn rows(alloc: Global, graph: &Graph, count: usize) -> Result<Vec<Items<u32>>, NoMemory>
+fn rows(alloc: Global, graph: &Graph, count: usize) -> Result<Vec<Items<usize>>, NoMemory>
     requires nodes { count ≤ graph.now.nodes }
-    requires small { count ≤ 4294967295 }
     ensures { IfOk result (λ rows. AreRows graph.now count count rows.items) }
 {
     let mut rows = Vec::with_capacity(alloc, count)?;
@@ -60,9 +59,8 @@ fn rows(alloc: Global, graph: &Graph, count: usize) -> Result<Vec<Items<u32>>, N
 }
 
 /// The numbers of the types that are reached from this one, in ascending order.
-fn row(alloc: Global, graph: &Graph, count: usize, from: usize) -> Result<Items<u32>, NoMemory>
+fn row(alloc: Global, graph: &Graph, count: usize, from: usize) -> Result<Items<usize>, NoMemory>
     requires nodes { count ≤ graph.now.nodes }
-    requires small { count ≤ 4294967295 }
     requires from { from < count }
     ensures { IfOk result (IsRow graph.now count from) }
 {
@@ -70,24 +68,20 @@ fn row(alloc: Global, graph: &Graph, count: usize, from: usize) -> Result<Items<
     let mut row = Vec::new(alloc);
     for number in 0..count {
         if met.holds(number) {
-            row.push(number as u32)?;
+            row.push(number)?;
         }
     }
     Ok(Items::from_vec(row))
 }
 
 impl Subtypes {
-    /// Those of a grammar, in the time of one pass over it for each type. More types than a `u32` counts
-    /// are told as want of memory.
+    /// Those of a grammar, in the time of one pass over it for each type.
     pub fn of(alloc: Global, g: &Grammar, numbers: &Numbers) -> Result<Subtypes, NoMemory>
         requires numbers { AreNumbersOf g.now numbers.now }
         requires small { size g.now ≤ 65535 }
         ensures { IfOk result (AreSubtypesOf g.now) }
     {
         let kinship = Kinship::of(alloc, g, numbers)?;
-        if kinship.names.len() > u32::MAX as usize {
-            return Err(NoMemory);
-        }
         let above = rows(alloc, &kinship.graph, kinship.names.len())?;
         Ok(Subtypes {
             names: kinship.into_names(),
@@ -118,7 +112,7 @@ impl Subtypes {
     }
 
     /// The numbers of the types that the one of this number is below. It may be among them itself.
-    pub fn above(&self, number: usize) -> &[u32]
+    pub fn above(&self, number: usize) -> &[usize]
         requires { number < length self.now.names }
         ensures { (g : Grammar) → AreSubtypesOf g self.now → slice_get self.now.above number ≡ Some result.now }
     {
@@ -146,6 +140,6 @@ impl Subtypes {
         ensures distinct { IsDistinct bytes_eq self.now.names }
     {
         let row = self.above[low].as_slice();
-        row.binary_search(&(high as u32)).is_ok()
+        row.binary_search(&high).is_ok()
     }
 }

@@ -36,7 +36,7 @@ pub fn read_front<'p>(
 pub fn read_over<'p>(
     alloc: Global,
     parser: &'p Parser,
-    places: &[u32],
+    places: &[usize],
     tokens: &[Token],
 ) -> Result<Fronts<'p>, NoMemory>
     requires { (g : Grammar) × (of : Kinds) × (tasks : List Task) × IsProgramWith g of tasks parser.now.program parser.now.begins

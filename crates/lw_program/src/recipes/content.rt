@@ -11,7 +11,7 @@ ghost use Rattle.lw_grammar.specs.declared.rule.Value0.TheOpen as value;
 ghost use Rattle.lw_grammar.specs.declared.terminal.Primitive.TheVariants as primitive;
 ghost use Rattle.lw_kinds.specs.LexiconKnown.{IsKnownLexicon};
 ghost use Rattle.lw_program.specs.Drafted.{IsContentOf, IsSingle};
-ghost use Rattle.lw_program.specs.Making.{IsNameForm, text_form};
+ghost use Rattle.lw_program.specs.Making.{IsNameForm, IsReference, text_form};
 ghost use Rattle.lw_program.specs.declared.recipes.recipe.TextForm.{TextForm};
 
 use crate::recipes::numbering::type_number;
@@ -58,6 +58,7 @@ fn called(lexicon: Lexicon<'_>, name: &Name) -> Content
 
 /// What a token of the terminal becomes: the type that it returns decides, and after that its name.
 fn of_terminal(terminal: &Terminal) -> Content
+    ensures no_reference { ¬ IsReference result }
     ensures number { terminal.now.gives ≡ primitive.Number → result ≡ Content.Number }
     ensures words { terminal.now.gives ≢ primitive.Number → result ≡ Content.Text (text_form terminal.now.name) }
 {

@@ -42,7 +42,7 @@ impl Model for Recipes {
 
 impl Recipes {
     /// Those of a grammar, in one walk over its rules, also those that nothing reaches. Time and memory are linear in the size of the
-    /// grammar, but for the expected constant time in which a name is looked up. Only want of memory is an error.
+    /// grammar, but for the expected constant time in which a name is looked up. Only an allocation that is refused is an error.
     pub fn of(alloc: Global, lexicon: Lexicon<'_>) -> Result<Recipes, NoMemory>
         requires known { IsKnownLexicon lexicon }
         ensures { IfOk result (AreRecipesOf lexicon.entry.g.now) }

@@ -1,5 +1,5 @@
 // Cells of lists that share their ends.
-ghost use Rattle.std.specs.Prelude.{ℕ, ◌≡◌, ◌+◌, ◌≤◌, ◌<◌, ◌^◌, [], ◌∷◌, length, IfOk, IfErr, MatchOption};
+ghost use Rattle.std.specs.Prelude.{ℕ, ◌≡◌, ◌+◌, ◌≤◌, ◌<◌, [], ◌∷◌, length, IfOk, IfErr, MatchOption};
 ghost use Rattle.lw_viable.specs.Chains.{chain};
 
 use crate::chains::cell::{Cell, Link};
@@ -14,14 +14,14 @@ pub struct Chains<T: Copy> {
 }
 
 impl<T: Copy> Model for Chains<T> {
-    ghost use Rattle.std.specs.Prelude.{ℕ, ◌≡◌, ◌≤◌, ◌<◌, ◌^◌, List, Some, length, map, reverse, slice_get};
+    ghost use Rattle.std.specs.Prelude.{ℕ, ◌≡◌, ◌≤◌, List, Some, length, map, reverse, slice_get};
     ghost use Rattle.lw_viable.specs.declared.chains.cell.Cell.{Cell};
 
     ghost Value = { List (T × ℕ) };
 
     ghost view = { λ a. reverse (map (λ cell. (cell.item, cell.below.0)) a.cells.items) };
 
-    ghost invariant = { λ a. (length a.cells.items < 2 ^ 32) × ((i : ℕ) (cell : Cell T) → slice_get a.cells.items i ≡ Some cell → cell.below.0 ≤ i) };
+    ghost invariant = { λ a. (i : ℕ) (cell : Cell T) → slice_get a.cells.items i ≡ Some cell → cell.below.0 ≤ i };
 }
 
 impl<T: Copy> Chains<T> {
@@ -36,14 +36,13 @@ impl<T: Copy> Chains<T> {
 
     /// How many lists there are beside the empty one, in constant time. Their links are the numbers from 1 to this.
     pub fn len(&self) -> usize
-        ensures all { result ≡ length self.now }
-        ensures most { result < 2 ^ 32 }
+        ensures { result ≡ length self.now }
     {
         self.cells.len()
     }
 
-    /// Puts an item before a list and answers the new list, in constant time on average. All lists that were there stay. Where there would
-    /// be 2^32 lists, the answer is that memory is wanting. Nothing changes then, and where memory is refused.
+    /// Puts an item before a list and answers the new list, in constant time on average. All lists that were there stay. Nothing
+    /// changes where memory is refused.
     pub fn put(&mut self, item: T, below: Link) -> Result<Link, NoMemory>
         requires { below.0 ≤ length self.old }
         ensures put { IfOk result (λ link. (self.new ≡ (item, below.0) ∷ self.old) × (link.0 ≡ length self.old + 1)) }
@@ -51,12 +50,8 @@ impl<T: Copy> Chains<T> {
         ensures others { (link : ℕ) → link ≤ length self.old → chain self.new link ≡ chain self.old link }
         ensures refused { IfErr result (λ _. self.new ≡ self.old) }
     {
-        let number = match u32::try_from(self.cells.len() + 1) {
-            Ok(number) => number,
-            Err(_) => return Err(NoMemory),
-        };
         self.cells.push(Cell { item, below })?;
-        Ok(Link(number))
+        Ok(Link(self.cells.len()))
     }
 
     /// The first item of a list and the list below it, whose number is less, in constant time. There is none in the empty list.
@@ -66,7 +61,7 @@ impl<T: Copy> Chains<T> {
     {
         match link.0.checked_sub(1) {
             None => None,
-            Some(place) => match self.cells.get(place as usize) {
+            Some(place) => match self.cells.get(place) {
                 None => None,
                 Some(cell) => Some((cell.item, cell.below)),
             },

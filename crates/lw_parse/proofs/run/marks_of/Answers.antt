@@ -17,7 +17,7 @@ returns-in_default c = λ g kinds k is supplied whole.
     let state = stacked c.args.parser.now all c.new.result.items c.new-2.result.items in
     run_begins g kinds k c.args.parser.now is
     (subst (λ r. NotEntered c.args.parser.now all (Some (Call r))) c.entry.ensures
-    (subst (IsStepBy state (Some (Call c.entry.result.0))) c.in_default.is c.in_ok-start.ensures))
+    (subst (IsStepBy state (Some (Call c.entry.result.0))) c.in_default.is c.call.ensures))
 
 pub turns-init : goal.turns-init
 turns-init c = λ g kinds k is.
@@ -25,7 +25,7 @@ turns-init c = λ g kinds k is.
     let parser = c.args.parser.now in
     let start = c.in-Some.start in
     let state = stacked parser all c.new.result.items c.new-2.result.items in
-    let entered = subst (IsStepBy state (Some (Call c.entry.result.0))) c.in-Some.is c.in_ok-start.ensures in
+    let entered = subst (IsStepBy state (Some (Call c.entry.result.0))) c.in-Some.is c.call.ensures in
     let same = c.in_ok-make.ensures
     ∙ began parser all c.new.result.items c.new-2.result.items (left start.mark) (places_of start.places) (unread_behind start.mark all) c.new.ensures.items c.new-2.ensures.items in
     subst (IsRunning g kinds k parser is all) (sym same)
@@ -45,7 +45,7 @@ returns-in_default-2 c = λ g kinds k is supplied.
     let unread = map (λ kind. kind.0) run.unread.now in
     let mid = stacked run.parser.now unread c.pop.new.self.items run.marks.items in
     let place = c.in-Some-pop.place in
-    let up = subst (IsDecided mid place (slice_get run.parser.now.program.code place)) c.in_default-2.is c.in_ok-turn.ensures in
+    let up = subst (IsDecided mid place (slice_get run.parser.now.program.code place)) c.in_default-2.is c.decide.ensures in
     run_stuck g kinds k c.args.parser.now is supplied.choices (c.turns.invariant g kinds k is)
     (popped run.parser.now unread run.marks.items run.to_do.items c.pop.new.self.items place c.in-Some-pop.ensures.items) up
 
@@ -55,8 +55,8 @@ turns-preserved c = λ g kinds k is.
     let unread = map (λ kind. kind.0) run.unread.now in
     let mid = stacked run.parser.now unread c.pop.new.self.items run.marks.items in
     let place = c.in-Some-pop.place in
-    let turns = subst (IsDecided mid place (slice_get run.parser.now.program.code place)) c.in-Some-2.is c.in_ok-turn.ensures in
-    subst (IsRunning g kinds k c.args.parser.now is (map (λ kind. kind.0) c.args.seen.now)) (sym c.in_ok-turn-2.ensures)
+    let turns = subst (IsDecided mid place (slice_get run.parser.now.program.code place)) c.in-Some-2.is c.decide.ensures in
+    subst (IsRunning g kinds k c.args.parser.now is (map (λ kind. kind.0) c.args.seen.now)) (sym c.in_ok-turn.ensures)
     (run_goes_on g kinds k c.args.parser.now is (c.turns.invariant g kinds k is)
     (popped run.parser.now unread run.marks.items run.to_do.items c.pop.new.self.items place c.in-Some-pop.ensures.items) turns)
 
@@ -65,7 +65,7 @@ turns-smaller c =
     let old = c.turns.run.marks in
     let new = c.turn.new.self.marks in
     let left = marks_in c.in-Some-2.turn in
-    let more : length new.items ≡ length (old.items ++ left) = ap (λ (s : RunState). length s.marks) c.in_ok-turn-2.ensures in
+    let more : length new.items ≡ length (old.items ++ left) = ap (λ (s : RunState). length s.marks) c.in_ok-turn.ensures in
     let longer = length-append old.items left in
     elim c.in_ok-quiet.ensures [
       | inl (less, none) ↦ omega (arith, more, longer, old.ok.0, new.ok.0, less, none, c.len-before.ensures, c.len.ensures)

@@ -1,5 +1,5 @@
 -- A node opens, or there is the body alone.
-use Rattle.std.proofs.Common.{[], ◌∷◌, None, Some, sym, ◌∙◌, subst, true≢false}
+use Rattle.std.proofs.Common.{◌+◌, [], ◌∷◌, None, Some, sym, ◌∙◌, true≢false}
 use Rattle.std.proofs.lemmas.Result.{on_ok_weaker}
 use Rattle.lw_program.specs.declared.recipes.mark.TreeMark.TheVariants as mark
 use Rattle.lw_viable.specs.Growing.{Change}
@@ -7,12 +7,11 @@ use Rattle.lw_viable.specs.Turning.{Enters}
 use Rattle.lw_viable.specs.Turning as turn
 use Rattle.lw_viable.proofs.sought.enter.Goals as goal
 
-pub returns-in_ok-end-clause-put : goal.returns-in_ok-end-clause-put
-returns-in_ok-end-clause-put c =
-    let open_ : Change = (Some (mark.Open (record { 0 = c.args.rule })), c.args.start ∷ c.in_ok-end.end ∷ []) in
+pub returns-then-makes_node-clause-put : goal.returns-then-makes_node-clause-put
+returns-then-makes_node-clause-put c =
+    let open_ : Change = (Some (mark.Open (record { 0 = c.args.rule })), c.args.start ∷ (c.args.start + 1) ∷ []) in
     let enters : Enters c.args.begins.now c.args.rule c.args.start open_ =
-    subst (λ end. Enters c.args.begins.now c.args.rule c.args.start (Some (mark.Open (record { 0 = c.args.rule })), c.args.start ∷ end ∷ [])) (sym c.in_ok-end.ensures)
-    (turn.opens (c.makes_node.ensures.0 c.if-makes_node.true)) in
+    turn.opens (c.makes_node.ensures.0 c.if-makes_node.true) in
     on_ok_weaker c.put.result (λ put. (open_, enters, put)) c.put.ensures.put
 
 pub returns-else-makes_node-clause-put : goal.returns-else-makes_node-clause-put

@@ -34,9 +34,9 @@ returns-then-not-is_reference-clause-fewer c =
     (λ is. true≢false (sym (c.is_reference.ensures.1 is) ∙ c.if-not-is_reference.true)) (c.end.ensures.ended r.0) c.end.ensures.reading r.2)
     (λ both. both.1)
 
-pub returns-in-None-clause-closing : goal.returns-in-None-clause-closing
-returns-in-None-clause-closing c = λ g x closing.
+pub returns-clause-closing : goal.returns-clause-closing
+returns-clause-closing c = λ g x closing.
     let m = c.requires.innermost in
-    left_out_closing g c.args.self.now c.take_value.new.self m.0 c.args.value c.take_value.result c.value-recipe.result.now x m.1 c.value-recipe.ensures
-    (c.is_reference.ensures.0 c.if-not-is_reference.false) c.in-None.is
-    (record { same = c.take_value.ensures.kept; brackets = c.take_value.ensures.brackets }) c.take_value.ensures.reading closing
+    left_out_closing g c.args.self.now c.take_value.new.self c.cut.new.self m.0 c.args.value c.take_value.result c.value-recipe.result.now x m.1 c.value-recipe.ensures
+    (c.is_reference.ensures.0 c.if-not-is_reference.false)
+    (record { same = c.take_value.ensures.kept; brackets = c.take_value.ensures.brackets }) c.take_value.ensures.reading c.cut.ensures.cut c.cut.ensures.reading closing

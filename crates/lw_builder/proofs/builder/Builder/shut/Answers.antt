@@ -54,7 +54,7 @@ returns-in_ok-push-in-Some-InValue-clause-shut c = λ g bs after over h change.
     (subst (λ ts. Finishes (record mid { brackets = c.pop.new.self }) c.finish.new.self node own ts) (same_tokens old mid c.take_node-node.ensures.reading)
     c.in_ok-own-in-Some-InValue.ensures.finished)
     c.in_ok-own-in-Some-InValue.ensures.brackets
-    (record { same = record { finished = refl; kept = refl; loose = refl; refs = refl }; brackets = c.in_ok-push-in-Some-InValue.ensures.items }) refl refl refl
+    (record { same = record { finished = refl; kept = refl; loose = refl; refs = refl }; brackets = c.in_ok-push-in-Some-InValue.ensures.items }) refl refl refl refl
 
 pub returns-in_ok-push-in-Some-InNode-clause-shut : goal.returns-in_ok-push-in-Some-InNode-clause-shut
 returns-in_ok-push-in-Some-InNode-clause-shut c = λ g bs after over h change.

@@ -1,9 +1,7 @@
 -- A body alone, and a node.
-use Rattle.std.proofs.Common.{◌+◌, [], ◌∷◌, None, Some, sym, ◌∙◌, subst, true≢false}
-use Rattle.lw_program.specs.declared.instr.Instr.TheVariants.{Call}
+use Rattle.std.proofs.Common.{◌+◌, [], ◌∷◌, None, Some, sym, ◌∙◌, true≢false}
 use Rattle.lw_program.specs.declared.recipes.mark.TreeMark.TheVariants as numbered
 use Rattle.lw_viable.specs.Turning as turn
-use Rattle.lw_parse.specs.Running.{state_of, Entered}
 use Rattle.lw_parse.specs.Running as run
 use Rattle.lw_parse.proofs.run.Run.begin_rule.Goals as goal
 
@@ -13,8 +11,6 @@ returns-then-not-makes_node c =
 
 pub returns : goal.returns
 returns c =
-    let state = state_of c.args.self.now in
     let rule = c.args.rule in
     let start = c.args.start in
-    subst (λ end. Entered state.parser state.unread (Some (Call rule)) (numbered.Open (record { 0 = rule }) ∷ []) (start ∷ end ∷ []) state.unread) (sym c.in_ok-end.ensures)
-    (run.calls (Some (numbered.Open (record { 0 = rule })), start ∷ (start + 1) ∷ []) c.requires (turn.opens (c.makes_node.ensures.0 c.if-not-makes_node.false)))
+    run.calls (Some (numbered.Open (record { 0 = rule })), start ∷ (start + 1) ∷ []) c.requires (turn.opens (c.makes_node.ensures.0 c.if-not-makes_node.false))

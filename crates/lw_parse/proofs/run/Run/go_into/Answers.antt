@@ -9,4 +9,4 @@ use Rattle.lw_parse.proofs.run.Run.go_into.Goals as goal
 pub returns : goal.returns
 returns c = λ p.
     let state = state_of c.args.self.now in
-    subst (IsDecided state p (Some (Call c.args.rule))) (sym c.plainly.ensures) (call_decided state p c.args.rule c.in_ok-step.step c.in_ok-step.ensures)
+    subst (IsDecided state p (Some (Call c.args.rule))) (sym c.plainly.ensures) (call_decided state p c.args.rule c.call.result c.call.ensures)

@@ -1,5 +1,5 @@
 -- What each instruction does.
-use Rattle.std.proofs.Common.{◌≡◌, Some, IfOk, sym, ap, ◌∙◌, subst}
+use Rattle.std.proofs.Common.{◌≡◌, Some, sym, ap, ◌∙◌, subst}
 use Rattle.lw_program.specs.declared.instr.Instr.TheVariants.{Token, End, Shut, Act, Row, Choice, Maybe, Once, Put, Call}
 use Rattle.lw_parse.specs.Deciding.{IsDecided}
 use Rattle.lw_parse.specs.Running.{state_of, GivesUp}
@@ -72,10 +72,10 @@ pub returns-in-Some-Put : goal.returns-in-Some-Put
 returns-in-Some-Put c =
     let at = c.in-Some-Put in
     let same : at.field-0 ≡ Put at.put at.first = rw c.in-Some-Put.is at c.in-Some-Put.field-0-is in
-    subst (λ i. IfOk c.begin_value.result (IsDecided (state_of c.args.self.now) c.args.place i)) (sym (at.is ∙ ap Some same)) (c.begin_value.ensures c.args.place)
+    subst (λ i. IsDecided (state_of c.args.self.now) c.args.place i c.begin_value.result) (sym (at.is ∙ ap Some same)) (c.begin_value.ensures c.args.place)
 
 pub returns-in-Some-Call : goal.returns-in-Some-Call
 returns-in-Some-Call c =
     let at = c.in-Some-Call in
     let same : at.field-0 ≡ Call at.rule = rw c.in-Some-Call.is at c.in-Some-Call.field-0-is in
-    subst (λ i. IfOk c.go_into.result (IsDecided (state_of c.args.self.now) c.args.place i)) (sym (at.is ∙ ap Some same)) (c.go_into.ensures c.args.place)
+    subst (λ i. IsDecided (state_of c.args.self.now) c.args.place i c.go_into.result) (sym (at.is ∙ ap Some same)) (c.go_into.ensures c.args.place)

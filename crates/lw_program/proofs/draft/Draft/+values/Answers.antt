@@ -1,4 +1,4 @@
-use Rattle.std.proofs.Common.{rules, sym, [], length, refl, ap, ◌∙◌, subst, arith}
+use Rattle.std.proofs.Common.{◌+◌, rules, sym, [], drop, length, map, sum, refl, ap, ◌∙◌, subst, subst₂, arith}
 use Rattle.std.proofs.lemmas.List.{take_all}
 use Rattle.std.proofs.lemmas.Option.{slice_get_read}
 use Rattle.std.proofs.lemmas.Result.{on_ok_weaker}
@@ -11,11 +11,17 @@ use Rattle.lw_look.specs.ReadBy as read
 use Rattle.lw_look.specs.Sites as site
 use Rattle.lw_program.specs.declared.instr.Instr.TheVariants.{Token}
 use Rattle.lw_program.specs.Filled.{Filled, listing, value_want, wants_from}
+use Rattle.lw_grammar.specs.Size.{value_size}
+use Rattle.lw_grammar.proofs.LeafLemmas.{size_of_value}
+use Rattle.lw_program.specs.Counting.{value_sites, AreSitesCounted}
 use Rattle.lw_program.specs.Reach.{AreInReach}
+use Rattle.lw_program.specs.Room.{HasRoom}
 use Rattle.lw_program.specs.Says as says
 use Rattle.lw_program.proofs.ValueForms.{fills_put, fills_ways}
 use Rattle.lw_program.proofs.Reaching.{knows_keyword, knows_call, knows_cross, crosses_read, ways_in_reach}
-use Rattle.lw_program.proofs.Written.{room_behind}
+use Rattle.lw_program.proofs.Counted.{both_none}
+use Rattle.lw_program.proofs.Written.{written, room_behind}
+use Rattle.lw_program.proofs.Room.{few_in_value, room_left, room_inside, numbers_less, numbers_behind_point, value_some, length-le-sum, sum_left, length_left}
 use Rattle.lw_program.proofs.Rows.{fills_next}
 use Rattle.lw_program.proofs.Texts.{calls_name_none, cross_calls}
 use Rattle.lw_program.proofs.draft.Draft.+values.Goals as goal
@@ -67,6 +73,14 @@ values-loop-number-preserved t c =
           let known = c.requires.known.kinds in
           let here = (c.in_ok-value.ensures known.kinds [] One (body 0) known.are).grown in
           omega (arith, before, here);
+      room =
+          let known = c.requires.known.kinds in
+          let here = c.in_ok-value.ensures known.kinds [] One (body 0) known.are in
+          let value = c.index-values-number.result in
+          room_left (few_in_value (body 0) value) (subst (λ sites. AreSitesCounted sites c.loop-number.self.counts c.value.new.self.counts) (both_none (value_sites (body 0) value)) here.counted)
+          (let few = here.few in omega (arith, few))
+          (subst₂ (λ own n. HasRoom own n (listing c.loop-number.self)) (length_left c.args.values.now c.loop-number.number c.loop-number-test.true)
+          (sum_left value_size c.args.values.now c.loop-number.number value c.loop-number-test.true c.index-values-number.is) c.loop-number.invariant.room);
       filled =
           λ kinds p op s are.
           fills_next c.args.lexicon.g.now kinds (value_want p op) s c.args.values.now c.loop-number.number c.index-values-number.result c.loop-number-test.true
@@ -112,8 +126,15 @@ value-values-requires t c =
           c.requires.complete,
           (
             subst (AreInReach c.args.lexicon.g.now Value) (sym c.as_slice.ensures) reach,
-            room_behind c.args.place _ c.len.result c.in_ok-first-in-Choice.first c.args.self.now.code.items c.choice.new.self.code.items c.as_slice.result.now
-                is.first is.code (c.len.ensures ∙ ap length (sym c.as_slice.ensures)),
+            (
+              room_behind c.args.place _ c.len.result c.in_ok-first-in-Choice.first c.args.self.now.code.items c.choice.new.self.code.items c.as_slice.result.now
+                  is.first is.code (c.len.ensures ∙ ap length (sym c.as_slice.ensures)),
+              subst (λ ways. HasRoom (length ways) (sum (map value_size ways)) (listing c.choice.new.self)) (sym c.as_slice.ensures)
+                  (let size = size_of_value c.args.value.now (value.Choice at.ways at.field-1) (ap out-Value0 at.is ∙ outs-Choice at.ways at.field-1) in
+                  room_inside (omega (arith, size)) c.requires.room
+                  ((written c.args.place _ c.len.result c.args.self.now.code.items c.choice.new.self.code.items c.requires.inside is.code).sized ∙ ap (λ n. length c.args.self.now.code.items + n) c.len.ensures)
+                  (numbers_behind_point (omega (arith, size)) is.counts c.requires.room.numbers)),
+            ),
           ),
         ),
       ),
@@ -128,6 +149,31 @@ values-value-requires t c =
       search (rules, the_lemmas),
       (
         c.requires.known,
-        (c.requires.complete, (c.requires.reach c.loop-number.number c.index-values-number.result at, omega (arith, inside, grown, before))),
+        (
+          c.requires.complete,
+          (
+            c.requires.reach c.loop-number.number c.index-values-number.result at,
+            (
+              omega (arith, inside, grown, before),
+              (let room = c.loop-number.invariant.room in
+                  let long = length_left c.args.values.now c.loop-number.number c.loop-number-test.true in
+                  let sum = sum_left value_size c.args.values.now c.loop-number.number c.index-values-number.result c.loop-number-test.true c.index-values-number.is in
+                  let few = length-le-sum value_size value_some (drop (c.loop-number.number + 1) c.args.values.now) in
+                  record {
+                    places = let places = room.places in omega (arith, places, long, sum, few);
+                    numbers = numbers_less (omega (arith, sum)) room.numbers;
+                  }),
+            ),
+          ),
+        ),
       ),
     )
+
+pub value-choice-requires-clause-room : goal.value-choice-requires-clause-room
+value-choice-requires-clause-room t c =
+    let at = c.in-Choice in
+    let room = c.requires.room.places in
+    let size = size_of_value c.args.value.now (value.Choice at.ways at.field-1) (ap out-Value0 at.is ∙ outs-Choice at.ways at.field-1) in
+    let few = length-le-sum value_size value_some at.ways in
+    let count = c.len.ensures in
+    omega (arith, room, size, few, count)

@@ -7,14 +7,14 @@ returns-in-Terminal c =
     let g = c.args.lexicon.g.now in
     let name = c.args.name.now in
     call_content g name c.of_terminal.result
-    (told_by_terminal g name c.in-Terminal.field-0 c.in-Terminal.terminal.now c.in-Terminal.ensures c.of_terminal.ensures.number c.of_terminal.ensures.words)
+    (told_by_terminal g name c.in-Terminal.field-0 c.in-Terminal.terminal.now c.in-Terminal.ensures c.of_terminal.ensures.number c.of_terminal.ensures.words) c.of_terminal.ensures.no_reference
 
 pub returns-in-Rule : goal.returns-in-Rule
 returns-in-Rule c =
     let g = c.args.lexicon.g.now in
-    let name = c.args.name.now in call_content g name _ (told_by_rule g name c.in-Rule.field-0 c.in-Rule.field-1.now c.in-Rule.ensures refl)
+    let name = c.args.name.now in call_content g name _ (told_by_rule g name c.in-Rule.field-0 c.in-Rule.field-1.now c.in-Rule.ensures refl) (λ refers. refers)
 
 pub returns-in-Nothing : goal.returns-in-Nothing
 returns-in-Nothing c =
     let g = c.args.lexicon.g.now in
-    let name = c.args.name.now in call_content g name _ (told_by_nothing g name c.in-Nothing.ensures)
+    let name = c.args.name.now in call_content g name _ (told_by_nothing g name c.in-Nothing.ensures) (λ refers. refers)

@@ -1,5 +1,5 @@
 -- What each instruction does.
-use Rattle.std.proofs.Common.{◌-◌, [], ◌∷◌, None, Some, map, refl, sym, ap, ◌∙◌}
+use Rattle.std.proofs.Common.{◌+◌, ◌-◌, [], ◌∷◌, None, Some, map, refl, sym, ap, ◌∙◌}
 use Rattle.std.proofs.lemmas.Result.{on_ok_weaker}
 use Rattle.lw_program.specs.declared.instr.Instr.TheVariants.{Row, Choice, Maybe, Loop, Once, Put, Call}
 use Rattle.lw_program.specs.declared.recipes.mark.TreeMark.TheVariants as mark
@@ -58,13 +58,13 @@ returns-in-Some-Once-clause-moved c =
     moved_quietly c.args.self.program.now c.args.self.begins.now c.args.self.kind c.args.place (Some (Once at.rest)) changes c.args.found.now.items
     (sym at.ensures ∙ ap Some at.field-0-is) c.once.ensures.grows loops refl put) c.once.ensures.put
 
-pub returns-in_ok-end-in-Some-Put-clause-moved : goal.returns-in_ok-end-in-Some-Put-clause-moved
-returns-in_ok-end-in-Some-Put-clause-moved c =
+pub returns-in-Some-Put-clause-moved : goal.returns-in-Some-Put-clause-moved
+returns-in-Some-Put-clause-moved c =
     let at = c.in-Some-Put in
     on_ok_weaker c.put-in-Some-Put.result (λ put.
     moved_quietly c.args.self.program.now c.args.self.begins.now c.args.self.kind c.args.place (Some (Put at.put at.first))
-    ((Some (mark.Put at.put), at.first ∷ c.in_ok-end-in-Some-Put.end ∷ []) ∷ []) c.args.found.now.items (sym at.ensures ∙ ap Some at.field-0-is)
-    c.put-in-Some-Put.ensures.grows (ap (λ end. (Some (mark.Put at.put), at.first ∷ end ∷ []) ∷ []) c.in_ok-end-in-Some-Put.ensures) refl put) c.put-in-Some-Put.ensures.put
+    ((Some (mark.Put at.put), at.first ∷ (at.first + 1) ∷ []) ∷ []) c.args.found.now.items (sym at.ensures ∙ ap Some at.field-0-is)
+    c.put-in-Some-Put.ensures.grows refl refl put) c.put-in-Some-Put.ensures.put
 
 pub returns-in-Some-Call-clause-moved : goal.returns-in-Some-Call-clause-moved
 returns-in-Some-Call-clause-moved c =

@@ -10,4 +10,4 @@ returns c =
     let kinship = c.in_ok-kinship.kinship in
     let above = c.in_ok-above.above.items in
     subst (λ names. AreSubtypesOf g (record { names = names.keys; above = above })) (sym c.into_names.ensures)
-    (table_of g kinship c.in_ok-kinship.ensures above (subst (λ n. AreRows kinship.graph n n above) c.len-2.ensures.len c.in_ok-above.ensures))
+    (table_of g kinship c.in_ok-kinship.ensures above (subst (λ n. AreRows kinship.graph n n above) c.len.ensures.len c.in_ok-above.ensures))

@@ -11,6 +11,6 @@ returns-clause-row c = λ row at.
     let searched = c.as_slice-row.result.now in
     let here = ap (λ xs. slice_get xs low) (ap (λ t. t.above) c.self.view_is) ∙ at in
     let is = c.as_slice-row.ensures ∙ c.index.ensures ∙ get_or_from_slice_get rows low row c.index.result.now here in
-    let ascends = subst IsAscending (get_or_from_slice_get rows low row row here) (c.self.invariant.3 low row (slice_get_within rows low row here)) in
+    let ascends = subst IsAscending (get_or_from_slice_get rows low row row here) (c.self.invariant.2 low row (slice_get_within rows low row here)) in
     let found = row_has searched c.args.high c.binary_search.result c.is_ok.result c.is_ok.ensures.value (subst IsAscending (sym is) ascends) c.binary_search.ensures.position in
     subst (λ xs. IsTrue c.is_ok.result ↔ Contains xs c.args.high) is found

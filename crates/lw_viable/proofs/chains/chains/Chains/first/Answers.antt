@@ -20,7 +20,7 @@ returns-in-Some-get g c =
     let there : slice_get kept place ≡ Some cell =
     ap (λ cells. slice_get cells place) (sym c.deref.ensures.value) ∙
     slice_get_read c.deref.result.now (length c.deref.result.now) place cell refl c.in-Some-get.ensures.lookup.3.0 c.in-Some-get.ensures.lookup.1 in
-    let less : cell.below.0 ≤ place = c.self.invariant.1 place cell there in
+    let less : cell.below.0 ≤ place = c.self.invariant place cell there in
     let read = read_kept (λ cell. (cell.item, cell.below.0)) kept c.args.self.now c.self.view_is place cell there less in
     let same : c.args.link.0 ≡ place + 1 = omega (arith, c.in-Some.ensures) in
     (ap (chain c.args.self.now) same ∙ read.list, omega arith, omega (arith, same, read.below))
