@@ -35,12 +35,12 @@ use Rattle.lw_types.proofs.Currents.{IsOnlyType}
 below_later : (x : ℕ) (xs : List ℕ) (k : ℕ) → AllPairs (λ a b. a < b) (x ∷ xs) → Contains xs k → x < k
 below_later x xs k ascends (i, inside, is) = subst (λ n. x < n) is (ascends 0 (suc i) k (omega arith) (omega (arith, inside)))
 
-none_kept : (q : ℕ → Bool) (xs : List ℕ) → ((k : ℕ) → Contains xs k → q k ≡ false) → filter q xs ≡ []
+pub none_kept : (q : ℕ → Bool) (xs : List ℕ) → ((k : ℕ) → Contains xs k → q k ≡ false) → filter q xs ≡ []
 none_kept q [] fails = refl
 none_kept q (x ∷ xs) fails =
     ap (λ b. cond b (x ∷ filter q xs) (filter q xs)) (fails x (at_front x xs)) ∙ none_kept q xs (λ k has. fails k (behind_front x xs k has))
 
-one_kept : (q : ℕ → Bool) (xs : List ℕ) (c : ℕ) → AllPairs (λ a b. a < b) xs → Contains xs c → q c ≡ true → ((k : ℕ) → Contains xs k → k ≢ c → q k ≡ false) →
+pub one_kept : (q : ℕ → Bool) (xs : List ℕ) (c : ℕ) → AllPairs (λ a b. a < b) xs → Contains xs c → q c ≡ true → ((k : ℕ) → Contains xs k → k ≢ c → q k ≡ false) →
     filter q xs ≡ c ∷ []
 one_kept q [] c ascends has passes others = absurd (not_in_none c has)
 one_kept q (x ∷ xs) c ascends has passes others = elim (front_cases x xs c has) [
@@ -91,7 +91,7 @@ abbrev pub of_type : ℕ → List Sighting → List Sighting
 of_type n = filter (λ s. s.of == n)
 
 module _ (n prop : ℕ) (list : Bool) (values : List ValueKind) where
-  of_sightings : (numbers : List ℕ) →
+  pub of_sightings : (numbers : List ℕ) →
       of_type n (map (λ of. sighting of prop list values) numbers) ≡ map (λ of. sighting of prop list values) (filter (λ k. k == n) numbers)
   of_sightings [] = refl
   of_sightings (x ∷ xs) = by (x == n) (filter (λ k. k == n) xs) (of_sightings xs)

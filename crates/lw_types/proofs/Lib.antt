@@ -10,6 +10,14 @@ mod Leading
 mod RoundTypes
 mod NameFaults
 pub mod Firsts
+pub mod FirstPlaces
+pub mod OnePlace
+pub mod NumberedValues
+pub mod Located
+pub mod PlacedLeaves
+pub mod PlacedRules
+pub mod PutOrder
+pub mod TypeTable
 pub mod InSets
 pub mod Putting
 pub mod Declaring

@@ -66,7 +66,7 @@ module _ (g : Grammar) where
       same_gives : (a b : Primitive) → Gives a ≡ Gives b → a ≡ b
       same_gives a b e = cc
 
-  one_kind : {part : ValueLeaf} {a b : Kind} → IsKindOf g part a → IsKindOf g part b → a ≡ b
+  pub one_kind : {part : ValueLeaf} {a b : Kind} → IsKindOf g part a → IsKindOf g part b → a ≡ b
   one_kind known.literal known.literal = refl
   one_kind (known.terminal t x is) (known.terminal u y was) = ap (λ (z : Terminal). Plain z.gives) (first_item is.first was.first)
   one_kind (known.terminal {name} t x is) (known.primitive r rule was _ _) = absurd (meant_apart declared_rule declared_terminal name g.rules g.terminals r t rule x was is)

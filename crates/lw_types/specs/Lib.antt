@@ -7,9 +7,12 @@ pub mod Seconds
 pub mod Attributes
 pub mod Rounds
 pub mod FirstSeen
+pub mod InOrder
+pub mod PutIn
 pub mod Values
 pub mod Sightings
 pub mod Having
+pub mod TypeProperties
 pub mod Gathered
 pub mod Seeing
 pub mod Worked
