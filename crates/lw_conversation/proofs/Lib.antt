@@ -6,6 +6,7 @@ pub mod OneFile
 pub mod OneOutcome
 pub mod Current
 pub mod Ordered
+pub mod Remade
 pub mod Lives
 pub mod SomeFile
 pub mod SomeEdit

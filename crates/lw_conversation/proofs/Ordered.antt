@@ -49,10 +49,10 @@ use Rattle.lw_conversation.specs.declared.phase.Phase.{Phase}
 
 -- ---- mentions by their documents
 
-abbrev Ascends : List ℕ → List ℕ → Type 0
+abbrev pub Ascends : List ℕ → List ℕ → Type 0
 Ascends a b = slice_cmp nat_cmp a b ≡ Less
 
-abbrev keys : List (List ℕ × List Span) → List (List ℕ)
+abbrev pub keys : List (List ℕ × List Span) → List (List ℕ)
 keys files = map (λ f. f.0) files
 
 -- one mention more, before a document that comes no sooner
@@ -101,7 +101,7 @@ one_more m n files head precedes ordered =
     sooner (by_start same _) apart = absurd (apart (same ∙ sym head.same))
     sooner (by_end same _ _) apart = absurd (apart (same ∙ sym head.same))
 
-documents_in_order : (mentions : List Mention) → AllPairs MentionPrecedes mentions → AllPairs Ascends (keys (by_document mentions))
+pub documents_in_order : (mentions : List Mention) → AllPairs MentionPrecedes mentions → AllPairs Ascends (keys (by_document mentions))
 documents_in_order [] ordered = none
   where
     none : AllPairs Ascends []
@@ -125,7 +125,7 @@ same_keys texts new (f ∷ fs) (e ∷ es) are = ap₂ (λ b bs. b ∷ bs) are.0.
 
 in_order : (g : Grammar) (texts : Texts) (address new : List ℕ) (offset : ℕ) (mentions : List Mention) (files : List FileEdits) →
     IsRenamed g texts address offset new (Ok mentions) → AllZip (AreEditsOf texts new) (by_document mentions) files → AreOrdered files
-in_order g texts address new offset mentions files (rename.renamed is kept stay) are =
+in_order g texts address new offset mentions files (rename.renamed is put kept stay) are =
     subst (λ us. AllPairs Ascends us) (sym (same_keys texts new (by_document mentions) files are)) (documents_in_order mentions is.are_mentions.ordered)
 
 module _ (g : Grammar) (m : Documents) where

@@ -32,7 +32,9 @@ use Rattle.lw_places.specs.Mentions as mention
 use Rattle.lw_places.specs.Mentions.{AreMentionsOf, IsMeantAt, IsMentionOf, Mention, MentionPrecedes, by_address, by_start, by_end}
 use Rattle.lw_places.specs.Renamed as renaming
 use Rattle.lw_places.specs.Renamed.{AreRenamed, CannotBeRead, IsKeptAt, IsRebound, IsRenamed, IsSpoiledAt, LinksStay, NothingIsMeant, Refusal, NotParsed, NoName, Rebound, Shape}
+use Rattle.lw_places.specs.Cutting.{AreRenamedTexts}
 use Rattle.lw_places.specs.Replacing.{renamed_texts, replaced, spans_at}
+use Rattle.lw_places.proofs.MentionsApart.{renamed_replaced}
 use Rattle.lw_places.specs.Shapes.{HaveSameShape, IsFirstUnlike, refers_as}
 use Rattle.lw_places.proofs.Untouched.{untouched}
 use Rattle.lw_places.proofs.Written.{turned_shape}
@@ -367,6 +369,9 @@ module _ (g : Grammar) (one_way : IsReadOneWay g) (tells : TellsTypes g) where
     abbrev HasOutcome : List ℕ → ℕ → Type 0
     HasOutcome address offset = (outcome : Result (List Mention) Refusal) × IsRenamed g texts address offset new outcome
 
+    put : (address : List ℕ) (offset : ℕ) → AreRenamed g texts address offset mentions → AreRenamedTexts new mentions texts now
+    put address offset are = renamed_replaced g texts address offset mentions are new
+
     all_kept : (address : List ℕ) (offset : ℕ) → AreRenamed g texts address offset mentions → AllKept texts reads now mentions → HasOutcome address offset
     all_kept address offset are kept = by (all_stay_or kept sorted.0 sorted.2)
       where
@@ -383,10 +388,10 @@ module _ (g : Grammar) (one_way : IsReadOneWay g) (tells : TellsTypes g) where
 
         by : ((b : List ℕ) → Contains sorted.0 b → LinksStay g texts now b) ⊎ FirstDiffers kept sorted.0 → HasOutcome address offset
         by (inl all) =
-            (Ok mentions, renaming.renamed are kept (λ a. all_links kept sorted.0 (λ b has. (sorted.1 b).1 has) (λ x. Unit {0}) (λ b has _. all b has) a tt))
+            (Ok mentions, renaming.renamed are (put address offset are) kept (λ a. all_links kept sorted.0 (λ b has. (sorted.1 b).1 has) (λ x. Unit {0}) (λ b has _. all b has) a tt))
         by (inr (a, (was, is, were, these, (i, x, y, led, leads, apart, same_before)), sooner)) = (
           Err (Rebound a i x y),
-          renaming.rebound are kept (record {
+          renaming.rebound are (put address offset are) kept (record {
             was = was;
             were = were;
             now = is;
@@ -426,7 +431,7 @@ module _ (g : Grammar) (one_way : IsReadOneWay g) (tells : TellsTypes g) where
 
             by : AllKept texts reads (renamed_texts new mentions texts) mentions ⊎ FirstSpoiled texts reads (renamed_texts new mentions texts) mentions → Comes
             by (inl kept) = all_kept addresses texts readable reads new mentions address offset is kept
-            by (inr (m, refusal, has, spoiled, sooner)) = (Err refusal, renaming.refused is has spoiled sooner)
+            by (inr (m, refusal, has, spoiled, sooner)) = (Err refusal, renaming.refused is (renamed_replaced g texts address offset mentions is new) has spoiled sooner)
 
     pub some_renaming : Comes
     some_renaming =

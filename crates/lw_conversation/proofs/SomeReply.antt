@@ -281,16 +281,16 @@ module _ (g : Grammar) (tells : TellsTypes g) (m : Documents) (readable : HaveRe
     refusal_told : (offset : ℕ) (new : List ℕ) {refusal : Refusal} → IsRenamed g (present_texts m) address offset new (Err refusal) →
         (text : List ℕ) × IsRefusalText g (present_texts m) refusal text
     refusal_told offset new (rename.no_name none) = (_, ask.no_name)
-    refusal_told offset new (rename.refused are has (rename.unreadable there cannot) sooner) = (_, ask.not_parsed)
-    refusal_told offset new (rename.refused are has (rename.reshaped was reads is utf8 read unlike) sooner) = (_, ask.shape)
-    refusal_told offset new (rename.rebound {a = a} {i = i} {before = x} are kept is) =
+    refusal_told offset new (rename.refused are put has (rename.unreadable there cannot) sooner) = (_, ask.not_parsed)
+    refusal_told offset new (rename.refused are put has (rename.reshaped was reads is utf8 read unlike) sooner) = (_, ask.shape)
+    refusal_told offset new (rename.rebound {a = a} {i = i} {before = x} are put kept is) =
         let at = linked g (present_texts m) a i x is.was is.were is.led in
         let place = some_position at.text at.r.span.start (present_utf8 a at.text at.there) in
         (_, ask.rebound at.there at.reads at.at place.1)
 
     renamed_have_texts : (offset : ℕ) (new : List ℕ) (mentions : List Mention) → IsRenamed g (present_texts m) address offset new (Ok mentions) → (x : Mention) →
         Contains mentions x → HasPresentText x.address
-    renamed_have_texts offset new mentions (rename.renamed are kept stay) x has =
+    renamed_have_texts offset new mentions (rename.renamed are put kept stay) x has =
         mention_has_text are.trees are.are_trees true are.target x ((are.are_mentions.exact x).0 has)
 
     pub some_rename_told : IsReadOneWay g → ReadsTexts g → (id : Id) (new : List ℕ) → (reply : Reply) × TellsRename g m id address at new reply

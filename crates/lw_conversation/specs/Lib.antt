@@ -8,6 +8,7 @@ pub mod Editing
 pub mod Closing
 pub mod Watching
 pub mod Asking
+pub mod Remaking
 pub mod Effects
 pub mod Answered
 pub mod Sessions

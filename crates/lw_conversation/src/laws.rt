@@ -1,5 +1,6 @@
 // What a reader may expect of sessions, whatever the grammar and the bodies.
-ghost use Rattle.std.specs.Prelude.{◌≡◌, ℕ, ℤ, Bool, List, All, Some, true};
+ghost use Rattle.std.specs.Prelude.{◌≡◌, ℕ, ℤ, Bool, List, All, Contains, Ok, Some, true};
+ghost use Rattle.std.specs.List.{AllZip};
 ghost use Rattle.std.specs.FinMap.{get};
 ghost use Rattle.std.specs.Str.{IsUtf8};
 ghost use Rattle.lw_grammar.specs.declared.grammar.Grammar.{Grammar};
@@ -8,16 +9,21 @@ ghost use Rattle.lw_machine.specs.Readable.{HaveReadablePresentTexts, HaveReadab
 ghost use Rattle.lw_machine.specs.Telling.{TellsTypes};
 ghost use Rattle.lw_machine.specs.Validity.{AreCurrent, IsValid};
 ghost use Rattle.lw_reading.specs.Laws.{IsReadOneWay};
+ghost use Rattle.lw_link_rules.specs.Links.{Texts};
+ghost use Rattle.lw_places.specs.Mentions.{Mention};
+ghost use Rattle.lw_places.specs.Renamed.{IsRenamed};
+ghost use Rattle.lw_places.specs.Cutting.{AreRenamedTexts};
 ghost use Rattle.lw_rpc.specs.Replies.{HasOrderedEdits};
 ghost use Rattle.lw_rpc.specs.declared.file_change.FileChange.{FileChange};
 ghost use Rattle.lw_rpc.specs.declared.message.Id.{Id};
 ghost use Rattle.lw_rpc.specs.declared.message.Message.{Message};
+ghost use Rattle.lw_rpc.specs.declared.reply.FileEdits.{FileEdits};
 ghost use Rattle.lw_rpc.specs.declared.reply.Outcome.{Outcome};
 ghost use Rattle.lw_rpc.specs.declared.reply.Reply.{Reply};
 ghost use Rattle.lw_text.specs.declared.change.Change.{Change};
 ghost use Rattle.lw_text.specs.declared.place.Pos.{Pos};
 ghost use Rattle.lw_conversation.specs.Answered.{Answered};
-ghost use Rattle.lw_conversation.specs.Asking.{TellsCompletion, TellsDefinition, TellsReferences, TellsRename};
+ghost use Rattle.lw_conversation.specs.Asking.{AreEditsOf, by_document, TellsCompletion, TellsDefinition, TellsReferences, TellsRename};
 ghost use Rattle.lw_conversation.specs.Closing.{ClosesDocument};
 ghost use Rattle.lw_conversation.specs.Editing.{EditsDocument};
 ghost use Rattle.lw_conversation.specs.Ending.{Lives};
@@ -25,6 +31,7 @@ ghost use Rattle.lw_conversation.specs.Laws.{AreSettledByFiles};
 ghost use Rattle.lw_conversation.specs.Opening.{OpensDocument};
 ghost use Rattle.lw_conversation.specs.Outcomes.{Answers, AreFound, AreGiven, BringsTexts, ReadsTexts, TellsAllOffers, TellsOffers};
 ghost use Rattle.lw_conversation.specs.Reading.{Asked};
+ghost use Rattle.lw_conversation.specs.Remaking.{HasOwnPositions, IsRemade};
 ghost use Rattle.lw_conversation.specs.Sessions.{Serves};
 ghost use Rattle.lw_conversation.specs.Standing.{Standing, beginning};
 ghost use Rattle.lw_conversation.specs.Watching.{SeesChanges};
@@ -59,6 +66,17 @@ pub fn sessions_stay_current()
 pub fn edits_are_in_order()
     ensures { (g : Grammar) (s t : Standing) (m : Message) (asked : List Asked) (replies : List Reply) (ended : Ended) →
         Answered g s m asked t replies ended → All HasOrderedEdits replies }
+{}
+
+/// The edits by which an accepted rename is answered give the texts that were judged. They are made as the protocol says, by positions of the text before any of them
+/// is made, from the last to the first. Each mention is to begin and end at a character, and not between a `\r` and its `\n`: a place there has no position of its own.
+pub fn edits_give_what_was_judged()
+    ensures { (g : Grammar) (texts : Texts) (address : List ℕ) (offset : ℕ) (new : List ℕ) (mentions : List Mention) →
+        IsRenamed g texts address offset new (Ok mentions) → ((a text : List ℕ) → texts a ≡ Some text → IsUtf8 text) →
+        ((m : Mention) → Contains mentions m → (text : List ℕ) → texts m.address ≡ Some text → HasOwnPositions text m.span) →
+        (after : Texts) → AreRenamedTexts new mentions texts after →
+        (files : List FileEdits) → AllZip (AreEditsOf texts new) (by_document mentions) files →
+        (edits : FileEdits) → Contains files edits → IsRemade texts after edits }
 {}
 
 /// A session ends as its phases say, whatever its documents are, and they say one end of any bodies.

@@ -10,6 +10,7 @@
 //!   (`Opening.antt`, `Editing.antt`, `Closing.antt`, `Watching.antt`), with what the store was asked and
 //!   answered at each of its reads. The build stands before the reply to a question, which `Asking.antt` says
 //!   over the documents that it leaves.
+//! - `Remaking.antt`: what an editor makes of a text by the edits that it is told.
 //! - `Reading.antt`: what is asked of the store about the file at an address, and what is found.
 //! - `Removing.antt`: a document goes out, and the list that was told of it is cleared (`Publishing.antt`: a list
 //!   as a reply).
@@ -22,7 +23,8 @@
 //! There is no code here but the types [`Ended`] and [`Phase`] and the codes of errors, which are those of the
 //! protocol ([`error_codes`]). Each function has an empty
 //! body, and its contract is a law that a reader would expect. Edits are told of documents in the order of their
-//! addresses ([`edits_are_in_order`]). Two laws are of a grammar by which a text is read in one way. What a session
+//! addresses ([`edits_are_in_order`]). Those of an accepted rename give the texts that were judged
+//! ([`edits_give_what_was_judged`]), wherever no mention begins or ends inside a `\r\n`. Two laws are of a grammar by which a text is read in one way. What a session
 //! does is settled by its bodies and by what the store answers, or by its files where no read failed
 //! ([`one_outcome`]). Once `initialize` was answered with a result, nothing is left to do behind a message
 //! ([`sessions_stay_current`]). A session ends as its phases say, and in one way ([`one_end`]). Each message has an
@@ -39,5 +41,8 @@ pub use error_code::{
     INVALID_PARAMS, INVALID_REQUEST, METHOD_NOT_FOUND, PARSE_ERROR, REQUEST_FAILED,
     SERVER_NOT_INITIALIZED, error_codes,
 };
-pub use laws::{edits_are_in_order, one_end, one_outcome, sessions_stay_current, some_outcome};
+pub use laws::{
+    edits_are_in_order, edits_give_what_was_judged, one_end, one_outcome, sessions_stay_current,
+    some_outcome,
+};
 pub use phase::Phase;

@@ -14,3 +14,8 @@ pub mod Written
 mod OneList
 mod HeldText
 pub mod OneWord
+pub mod Rows
+pub mod SpansInRow
+pub mod TreeSpans
+pub mod Replaced
+pub mod MentionsApart

@@ -15,7 +15,7 @@ addresses_strict a b one other = by (sym one ∙ nat_list_cmp_total.antisymm a b
     by : Less ≡ Greater → ⊥
     by same = cc
 
-not_at_one : (a b : List ℕ) → a ≡ b → slice_cmp nat_cmp a b ≡ Less → ⊥
+pub not_at_one : (a b : List ℕ) → a ≡ b → slice_cmp nat_cmp a b ≡ Less → ⊥
 not_at_one a b same less =
     let itself : slice_cmp nat_cmp b b ≡ Less = subst (λ c. slice_cmp nat_cmp c b ≡ Less) same less in addresses_strict b b itself itself
 

@@ -15,7 +15,7 @@ elsewhere b a apart = by (bytes_eq b a) refl
     by false is = is
     by true is = absurd (apart ((bytes_eq-Decides b a).0 is))
 
-no_mention : (a : List ℕ) (mentions : List Mention) → ((m : Mention) → Contains mentions m → m.address ≢ a) →
+pub no_mention : (a : List ℕ) (mentions : List Mention) → ((m : Mention) → Contains mentions m → m.address ≢ a) →
     filter (λ (m : Mention). bytes_eq m.address a) mentions ≡ []
 no_mention a [] none = refl
 no_mention a (m ∷ ms) none =

@@ -2,6 +2,7 @@ pub mod Places
 pub mod Mentions
 pub mod Asked
 pub mod Replacing
+pub mod Cutting
 pub mod Shapes
 pub mod Renamed
 pub mod Worked

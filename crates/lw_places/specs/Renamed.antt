@@ -15,7 +15,7 @@ use Rattle.lw_link_rules.specs.Links.{AreLinks, AreTreesOfTexts, IsNumberBelow, 
 use Rattle.lw_scoping.specs.Links.{Link, Trees}
 use Rattle.lw_tree.specs.declared.issue.Issue.{Issue}
 use Rattle.lw_tree.specs.Parts.{Parts}
-use Rattle.lw_places.specs.Replacing.{renamed_texts}
+use Rattle.lw_places.specs.Cutting.{AreRenamedTexts}
 use Rattle.lw_places.specs.Shapes.{HaveSameShape, IsFirstUnlike}
 
 -- why a rename is refused
@@ -87,18 +87,22 @@ module _ (g : Grammar) where
       pub are_trees : AreTreesOfTexts g texts trees
       pub none : IsMeantAt (IsNumberBelow g) trees address offset None
 
-    module _ (new : List ℕ) where
-      -- the outcome: the mentions that are to be replaced, or why nothing is
-      pub data IsRenamed : Result (List Mention) Refusal → Type 0 where
-        no_name : NothingIsMeant → IsRenamed (Err NoName)
-        refused : {mentions : List Mention} {m : Mention} {refusal : Refusal} → AreRenamed mentions → Contains mentions m →
-            IsSpoiledAt texts (renamed_texts new mentions texts) m.address refusal →
-            ((other : Mention) → Contains mentions other → slice_cmp nat_cmp other.address m.address ≡ Less →
-            IsKeptAt texts (renamed_texts new mentions texts) other.address) →
-            IsRenamed (Err refusal)
-        rebound : {mentions : List Mention} {a : List ℕ} {i : ℕ} {before behind : Link} → AreRenamed mentions →
-            ((m : Mention) → Contains mentions m → IsKeptAt texts (renamed_texts new mentions texts) m.address) →
-            IsRebound texts (renamed_texts new mentions texts) a i before behind → IsRenamed (Err (Rebound a i before behind))
-        renamed : {mentions : List Mention} → AreRenamed mentions →
-            ((m : Mention) → Contains mentions m → IsKeptAt texts (renamed_texts new mentions texts) m.address) →
-            ((a : List ℕ) → LinksStay texts (renamed_texts new mentions texts) a) → IsRenamed (Ok mentions)
+  -- What replacing mentions by a new name comes to: the mentions that are to be replaced, or why nothing is. Which mentions these are, and when there are none, is
+  -- handed in. `after` are the texts with exactly the mentions replaced.
+  module _ (texts : Texts) (new : List ℕ) (unnamed : Type 0) (mentioned : List Mention → Type 0) where
+    pub data ComesOfRenaming : Result (List Mention) Refusal → Type 0 where
+      no_name : unnamed → ComesOfRenaming (Err NoName)
+      refused : {mentions : List Mention} {after : Texts} {m : Mention} {refusal : Refusal} → mentioned mentions → AreRenamedTexts new mentions texts after →
+          Contains mentions m → IsSpoiledAt texts after m.address refusal →
+          ((other : Mention) → Contains mentions other → slice_cmp nat_cmp other.address m.address ≡ Less → IsKeptAt texts after other.address) →
+          ComesOfRenaming (Err refusal)
+      rebound : {mentions : List Mention} {after : Texts} {a : List ℕ} {i : ℕ} {before behind : Link} → mentioned mentions → AreRenamedTexts new mentions texts after →
+          ((m : Mention) → Contains mentions m → IsKeptAt texts after m.address) → IsRebound texts after a i before behind →
+          ComesOfRenaming (Err (Rebound a i before behind))
+      renamed : {mentions : List Mention} {after : Texts} → mentioned mentions → AreRenamedTexts new mentions texts after →
+          ((m : Mention) → Contains mentions m → IsKeptAt texts after m.address) → ((a : List ℕ) → LinksStay texts after a) → ComesOfRenaming (Ok mentions)
+
+  -- so of the mentions of what is meant at an offset
+  abbrev pub IsRenamed : Texts → List ℕ → ℕ → List ℕ → Result (List Mention) Refusal → Type 0
+  IsRenamed texts address offset new outcome =
+      ComesOfRenaming texts new (NothingIsMeant texts address offset) (AreRenamed texts address offset) outcome

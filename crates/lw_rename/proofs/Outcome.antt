@@ -8,6 +8,9 @@ use Rattle.lw_query.specs.Built.{AreBuiltViews, texts_seen, trees_seen}
 use Rattle.lw_query.specs.declared.view.View.{View}
 use Rattle.lw_places.specs.Renamed.{AreRenamed, IsRenamed, Refusal}
 use Rattle.lw_places.specs.Renamed as rename
+use Rattle.lw_places.specs.Cutting.{AreRenamedTexts}
+use Rattle.lw_places.specs.Replacing.{renamed_texts}
+use Rattle.lw_places.proofs.MentionsApart.{renamed_replaced}
 use Rattle.lw_rename.specs.Grouped.{TellsRefusal, no_name}
 use Rattle.lw_rename.specs.Afterwards.{trees_after}
 use Rattle.lw_rename.specs.Outcomes.{StandsAgainst, StandsNothingAgainst, rebound, spoiled}
@@ -58,15 +61,18 @@ module _ (g : Grammar) (new : List ℕ) (views : List View) (built : AreBuiltVie
           are_mentions = are_mentions g views built address offset target meant spans all;
         }
 
+    put : AreRenamedTexts new (mentions_over views spans) (texts_seen views) (renamed_texts new (mentions_over views spans) (texts_seen views))
+    put = renamed_replaced g (texts_seen views) address offset (mentions_over views spans) are_renamed new
+
     pub accepted : StandsNothingAgainst g new views spans → IsRenamed g (texts_seen views) address offset new (Ok (mentions_over views spans))
     accepted nothing =
-        rename.renamed are_renamed (all_kept g new views built target spans all nothing.trees nothing.again)
+        rename.renamed are_renamed put (all_kept g new views built target spans all nothing.trees nothing.again)
         (all_stay g new views built target spans all nothing.trees nothing.again nothing.stay)
 
     pub refused : (fault : RenameFault) → StandsAgainst g new views spans fault → IsRefused fault
     refused fault (spoiled first) =
         let one = first_refused g new views built target spans all fault first in
-        (one.refusal, one.tells, rename.refused are_renamed one.among one.spoiled one.kept_before)
+        (one.refusal, one.tells, rename.refused are_renamed put one.among one.spoiled one.kept_before)
     refused fault (rebound {trees = trees} again first) =
         let one = first_rebound g new views built target spans all trees again fault first in
-        (rename.Rebound one.address one.i one.before one.behind, one.tells, rename.rebound are_renamed (all_kept g new views built target spans all trees again) one.is)
+        (rename.Rebound one.address one.i one.before one.behind, one.tells, rename.rebound are_renamed put (all_kept g new views built target spans all trees again) one.is)

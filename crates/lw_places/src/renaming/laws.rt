@@ -1,5 +1,6 @@
 // What a reader may expect of renames, whatever the grammar and the texts.
 ghost use Rattle.std.specs.Prelude.{◌≡◌, ◌≢◌, ℕ, List, [], ◌∷◌, Result, Ok, Some, Contains, codes};
+ghost use Rattle.lw_base.specs.declared.token.Span.{Span};
 ghost use Rattle.lw_grammar.specs.declared.grammar.Grammar.{Grammar};
 ghost use Rattle.lw_places.specs.Mentions.{Mention};
 ghost use Rattle.lw_reading.specs.Laws.{IsReadOneWay};
@@ -7,8 +8,9 @@ ghost use Rattle.lw_link_rules.specs.Links.{AreLinks, Texts};
 ghost use Rattle.lw_link_rules.specs.Worked.{letter_at, twins};
 ghost use Rattle.lw_scoping.specs.Links.{Link};
 ghost use Rattle.lw_tree.specs.Parts.{Parts};
-ghost use Rattle.lw_places.specs.Renamed.{IsRenamed, Refusal};
-ghost use Rattle.lw_places.specs.Replacing.{renamed_texts, replaced};
+ghost use Rattle.lw_places.specs.Cutting.{AreRenamedTexts, IsReplaced, StandInOrder};
+ghost use Rattle.lw_places.specs.Renamed.{AreRenamed, IsRenamed, Refusal};
+ghost use Rattle.lw_places.specs.Replacing.{renamed_texts, replaced, spans_at};
 ghost use Rattle.lw_places.specs.Shapes.{HaveSameShape, IsFirstUnlike};
 ghost use Rattle.lw_places.specs.Worked.{event_last, letter_in, longer_twins};
 
@@ -22,10 +24,10 @@ pub fn one_rename()
 /// the nodes that they led to, told by address and number, and where one led nowhere it still does. And it changes no text of a document without a mention.
 pub fn renames_rebind_nothing()
     ensures bound { (g : Grammar) → IsReadOneWay g → (texts : Texts) (address : List ℕ) (offset : ℕ) (new : List ℕ) (mentions : List Mention) →
-        IsRenamed g texts address offset new (Ok mentions) → (a : List ℕ) (links : List Link) → AreLinks g texts a links →
-        AreLinks g (renamed_texts new mentions texts) a links }
-    ensures untouched { (new : List ℕ) (mentions : List Mention) (texts : Texts) (a : List ℕ) → ((m : Mention) → Contains mentions m → m.address ≢ a) →
-        renamed_texts new mentions texts a ≡ texts a }
+        IsRenamed g texts address offset new (Ok mentions) → (after : Texts) → AreRenamedTexts new mentions texts after →
+        (a : List ℕ) (links : List Link) → AreLinks g texts a links → AreLinks g after a links }
+    ensures untouched { (new : List ℕ) (mentions : List Mention) (texts after : Texts) → AreRenamedTexts new mentions texts after →
+        (a : List ℕ) → ((m : Mention) → Contains mentions m → m.address ≢ a) → after a ≡ texts a }
 {}
 
 /// What a rename comes to depends on nothing but which text stands at each address.
@@ -34,13 +36,30 @@ pub fn only_texts_are_renamed()
         (outcome : Result (List Mention) Refusal) → IsRenamed g texts address offset new outcome → IsRenamed g others address offset new outcome }
 {}
 
-/// Each span is replaced, at the place where it stands as the text is before any is; one that is given twice is replaced once. The
+/// One text results in which exactly these spans are replaced where they stand in order, and none where they do not. The text that is made from the front is it.
+pub fn what_stands_apart_is_replaced()
+    ensures one { (new : List ℕ) (spans : List Span) (text result other : List ℕ) → IsReplaced new spans text result → IsReplaced new spans text other → result ≡ other }
+    ensures only { (new : List ℕ) (spans : List Span) (text result : List ℕ) → IsReplaced new spans text result → StandInOrder text spans }
+    ensures made { (new text : List ℕ) (spans : List Span) → StandInOrder text spans → IsReplaced new spans text (replaced new text spans) }
+    ensures texts { (new : List ℕ) (mentions : List Mention) (texts after others : Texts) → AreRenamedTexts new mentions texts after →
+        AreRenamedTexts new mentions texts others → (address : List ℕ) → after address ≡ others address }
+{}
+
+/// The mentions that are renamed stand apart in each text, names against references too, whatever the grammar. So exactly they are replaced.
+pub fn mentions_stand_apart()
+    ensures apart { (g : Grammar) (texts : Texts) (asked : List ℕ) (offset : ℕ) (mentions : List Mention) → AreRenamed g texts asked offset mentions →
+        (address text : List ℕ) → texts address ≡ Some text → StandInOrder text (spans_at address mentions) }
+    ensures replaced { (g : Grammar) (texts : Texts) (asked : List ℕ) (offset : ℕ) (mentions : List Mention) → AreRenamed g texts asked offset mentions →
+        (new : List ℕ) → AreRenamedTexts new mentions texts (renamed_texts new mentions texts) }
+{}
+
+/// Each span is replaced, at the place where it stands as the text is before any is, and none is passed over: where one is given twice there is no result. The
 /// mentions in one document replace nothing in another.
 pub fn texts_are_replaced()
-    ensures all { replaced (codes "long") (codes "part x uses x") (letter_at 5 ∷ letter_at 12 ∷ []) ≡ codes "part long uses long" }
-    ensures once { replaced (codes "long") (codes "part x") (letter_at 5 ∷ letter_at 5 ∷ []) ≡ codes "part long" }
-    ensures there { (texts : Texts) → texts (codes "a") ≡ Some (codes "uses x") →
-        renamed_texts (codes "y") (letter_in (codes "a") 5 ∷ letter_in (codes "b") 0 ∷ []) texts (codes "a") ≡ Some (codes "uses y") }
+    ensures all { IsReplaced (codes "long") (letter_at 5 ∷ letter_at 12 ∷ []) (codes "part x uses x") (codes "part long uses long") }
+    ensures once { (result : List ℕ) → ¬ IsReplaced (codes "long") (letter_at 5 ∷ letter_at 5 ∷ []) (codes "part x") result }
+    ensures there { (texts after : Texts) → texts (codes "a") ≡ Some (codes "uses x") →
+        AreRenamedTexts (codes "y") (letter_in (codes "a") 5 ∷ letter_in (codes "b") 0 ∷ []) texts after → after (codes "a") ≡ Some (codes "uses y") }
 {}
 
 /// Trees that differ in texts and places alone have one shape. Those that differ in a type do not, and they differ first at that node.
